@@ -1,0 +1,20 @@
+-- Document 01, "Spread and weights": the root is the greatest whole number whose square is not above its operand.
+use Prim.Native.Nat.{ℕ, zero, suc, _+_, _*_, _/_, _≤_}
+use mathlib.Core.Bool.{cond}
+use lib.Dec.{leb, eqb}
+
+-- the words of the document; RootLaws shows that `root` is this number
+pub record IsRoot (x r : ℕ) : Type 0 where
+  pub not-above : r * r ≤ x
+  pub greatest : (s : ℕ) → s * s ≤ x → s ≤ r
+
+-- the root as a number that can be worked: twice the root of a quarter, or one more. k is at least the number of quarterings
+unfoldable pub oneMore : ℕ → ℕ → ℕ
+oneMore x r = cond (leb ((r + 1) * (r + 1)) x) (r + 1) r
+
+unfoldable pub rootIn : ℕ → ℕ → ℕ
+rootIn zero x = 0
+rootIn (suc k) x = let r = oneMore x (2 * rootIn k (x / 4)) in cond (eqb x 0) 0 r
+
+unfoldable pub root : ℕ → ℕ
+root x = rootIn x x

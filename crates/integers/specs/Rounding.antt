@@ -1,0 +1,17 @@
+-- Document 01, "Units and rounding": a fraction is rounded once to the nearest whole number, a half away from zero.
+-- Two names for one rule: callers use the laws of the name that document 01 gives to their place, and never that the two agree.
+use Prim.Native.Nat.{ℕ, suc, _+_, _*_, _-_, _/_}
+use lib.IntN.{ℤ, pos, negsuc, negℤ}
+
+-- n / d to the nearest whole number, a half up
+unfoldable pub nearest : ℕ → ℕ → ℕ
+nearest n d = (2 * n + d) / (2 * d)
+
+-- x / d for millionths and whole units: a half away from zero
+unfoldable pub awayFromZero : ℤ → ℕ → ℤ
+awayFromZero (pos n) d = pos (nearest n d)
+awayFromZero (negsuc n) d = negℤ (pos (nearest (suc n) d))
+
+-- x / d for every rounding to a grain: a half away from zero
+unfoldable pub toGrain : ℤ → ℕ → ℤ
+toGrain x d = awayFromZero x d

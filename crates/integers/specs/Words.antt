@@ -1,0 +1,163 @@
+-- Values of an i64 computation. A signed local holds bits, so what a need shows of an intermediate result is `toZ w64 (ofZ w64 ..)`, nested.
+-- `Reads t z B`: the term t of the need is the number z, and z is within B. A proof puts these together as the code puts the operations together.
+use mathlib.Core.Path.{_≡_, refl, sym, ap, ap₂, _∙_, subst}
+use mathlib.Core.Bool.{Bool, true, false, not}
+use Prim.Native.Nat.{ℕ, zero, suc, _+_, _*_, _-_, _/_, _^_, _<_, _≤_}
+use native.Mathlib.Nat.{lt-of-le-of-lt, le-trans, le-of-lt, div-le-self}
+use native.Mathlib.Omega.{arith}
+use lib.Dec.{T, ltb, ltb→lt, lt→ltb, nleb→lt, le→leb}
+use lib.IntN.{ℤ, pos, negsuc, negℤ, natAbs, _+ℤ_, _-ℤ_, _*ℤ_, +ℤ-idl}
+use lib.Signed.{quotZ, ltZ, leZ, mag, _<ℤ_, _≤ℤ_, ltZ-yes, ltZ-no, leZ-yes, natAbs-le}
+use mir.Syntax.{w64}
+use mir.Val.{SFits, toZ, ofZ}
+use mir.Facts.{toZ-ofZ}
+use Rattle.integers.specs.Sizes.{_within_, sfits64, w-lit, w+, w-, w*, w≤, abs-neg}
+
+pub record Reads (t z : ℤ) (B : ℕ) : Type 0 where
+  pub eq : t ≡ z
+  pub bound : z within B
+
+-- a parameter or another clean value; a literal
+pub i-arg : {x : ℤ} {B : ℕ} → SFits w64 x → x within B → Reads (toZ w64 (ofZ w64 x)) x B
+i-arg {x} f h = record { eq = toZ-ofZ f; bound = h }
+
+pub i-lit : (n : ℕ) → Reads (pos n) (pos n) n
+i-lit n = record { eq = refl; bound = w-lit n }
+
+pub i-neg-lit : (n : ℕ) → Reads (negsuc n) (negsuc n) (suc n)
+i-neg-lit n = record { eq = refl; bound = record { abs = omega arith } }
+
+-- the operations
+pub i+ : {a b x y : ℤ} {A B : ℕ} → Reads a x A → Reads b y B → Reads (a +ℤ b) (x +ℤ y) (A + B)
+i+ h k = record { eq = ap₂ _+ℤ_ (h .eq) (k .eq); bound = w+ (h .bound) (k .bound) }
+
+pub i- : {a b x y : ℤ} {A B : ℕ} → Reads a x A → Reads b y B → Reads (a -ℤ b) (x -ℤ y) (A + B)
+i- h k = record { eq = ap₂ _-ℤ_ (h .eq) (k .eq); bound = w- (h .bound) (k .bound) }
+
+pub i* : {a b x y : ℤ} {A B : ℕ} → Reads a x A → Reads b y B → Reads (a *ℤ b) (x *ℤ y) (A * B)
+i* h k = record { eq = ap₂ _*ℤ_ (h .eq) (k .eq); bound = w* (h .bound) (k .bound) }
+
+pub abs-quot : (a b : ℤ) → natAbs (quotZ a b) ≤ natAbs a
+abs-quot (pos a) (pos b) = div-le-self a b
+abs-quot (pos a) (negsuc b) = rw abs-neg (div-le-self a (suc b))
+abs-quot (negsuc a) (pos b) = rw abs-neg (div-le-self (suc a) b)
+abs-quot (negsuc a) (negsuc b) = div-le-self (suc a) (suc b)
+
+pub i/ : {a b x y : ℤ} {A B : ℕ} → Reads a x A → Reads b y B → Reads (quotZ a b) (quotZ x y) A
+i/ {x = x} {y = y} h k = record { eq = ap₂ quotZ (h .eq) (k .eq); bound = record { abs = le-trans (abs-quot x y) (h .bound .abs) } }
+
+-- what an operation asks; its result, stored and read back; another way to write the number, a wider bound.
+-- That the bound fits is a test, which computes where the bound is made of literals: `i-fits h tt`
+abbrev pub Room : ℕ → Type 0
+Room B = T (ltb B (2 ^ 63))
+
+pub i-fits : {t z : ℤ} {B : ℕ} → Reads t z B → Room B → SFits w64 t
+i-fits {B = B} h k = subst (SFits w64) (sym (h .eq)) (sfits64 (h .bound) (ltb→lt B (2 ^ 63) k))
+
+pub i-kept : {t z : ℤ} {B : ℕ} → Reads t z B → Room B → Reads (toZ w64 (ofZ w64 t)) z B
+i-kept h k = record { eq = toZ-ofZ (i-fits h k) ∙ h .eq; bound = h .bound }
+
+pub i-as : {t z z′ : ℤ} {B B′ : ℕ} → Reads t z B → z ≡ z′ → z′ within B′ → Reads t z′ B′
+i-as h e k = record { eq = h .eq ∙ e; bound = k }
+
+-- a divisor
+ofZ-pos : (z : ℤ) → 0 < natAbs z → natAbs z < 2 ^ 63 → 0 < ofZ w64 z
+ofZ-pos (pos n) h k = h
+ofZ-pos (negsuc n) h k = omega arith
+
+pub i-divisor : {a b x y : ℤ} {A B : ℕ} → Reads a x A → Reads b y B → 0 < natAbs y → Room A → Room B → (0 < ofZ w64 b) × SFits w64 (quotZ a (toZ w64 (ofZ w64 b)))
+i-divisor {a} {b} {x} {y} {A} {B} h k p la lb =
+    (rw (k .eq) (ofZ-pos y p (lt-of-le-of-lt (k .bound .abs) (ltb→lt B (2 ^ 63) lb))), i-fits (i/ h (i-kept k lb)) la)
+
+-- a test against 0
+pub is-neg : {a x : ℤ} {A : ℕ} → Reads a x A → ltZ a (pos 0) ≡ true → x <ℤ pos 0
+is-neg {x = x} h e = ltZ-yes (subst T (sym (rw (h .eq) at e)) tt)
+
+pub not-neg : {a x : ℤ} {A : ℕ} → Reads a x A → ltZ a (pos 0) ≡ false → pos 0 ≤ℤ x
+not-neg {x = x} h e = ltZ-no (subst (λ (c : Bool). T (not c)) (sym (rw (h .eq) at e)) tt)
+
+pub pos-abs : (d : ℤ) → pos 0 <ℤ d → 0 < natAbs d
+pos-abs (pos n) h = ltb→lt 0 n (h .lt)
+pos-abs (negsuc n) h = omega arith
+
+-- a value that is known to be within a bound that fits, as an element of a slice
+pub i-in : {x : ℤ} {B : ℕ} → x within B → Room B → Reads (toZ w64 (ofZ w64 x)) x B
+i-in {B = B} h k = i-arg (sfits64 h (ltb→lt B (2 ^ 63) k)) h
+
+pub i≤ : {t z : ℤ} {A B : ℕ} → Reads t z A → A ≤ B → Reads t z B
+i≤ h k = record { eq = h .eq; bound = w≤ (h .bound) k }
+
+-- the same number, written another way
+pub i≡ : {t z z′ : ℤ} {B : ℕ} → Reads t z B → z ≡ z′ → Reads t z′ B
+i≡ {B = B} h e = record { eq = h .eq ∙ e; bound = subst (λ (y : ℤ). y within B) e (h .bound) }
+
+-- a call's argument within a bound
+pub i-within : {t z : ℤ} {B : ℕ} → Reads t z B → t within B
+i-within {B = B} h = subst (λ (y : ℤ). y within B) (sym (h .eq)) (h .bound)
+
+-- a comparison of two values, as a branch leaves it
+pub i-lt : {a b x y : ℤ} {A B : ℕ} → Reads a x A → Reads b y B → ltZ a b ≡ true → x <ℤ y
+i-lt h k e = ltZ-yes (subst T (sym (rw (h .eq, k .eq) at e)) tt)
+
+pub i-nlt : {a b x y : ℤ} {A B : ℕ} → Reads a x A → Reads b y B → ltZ a b ≡ false → y ≤ℤ x
+i-nlt h k e = ltZ-no (subst (λ (c : Bool). T (not c)) (sym (rw (h .eq, k .eq) at e)) tt)
+
+pub i-le : {a b x y : ℤ} {A B : ℕ} → Reads a x A → Reads b y B → leZ a b ≡ true → x ≤ℤ y
+i-le h k e = leZ-yes (subst T (sym (rw (h .eq, k .eq) at e)) tt)
+
+nle : (a b : ℤ) → T (not (leZ a b)) → b <ℤ a
+nle (pos a) (pos b) t = ltZ-yes (lt→ltb b a (nleb→lt a b t))
+nle (pos a) (negsuc b) t = ltZ-yes tt
+nle (negsuc a) (pos b) t = absurd t
+nle (negsuc a) (negsuc b) t = ltZ-yes (lt→ltb a b (nleb→lt b a t))
+
+pub i-nle : {a b x y : ℤ} {A B : ℕ} → Reads a x A → Reads b y B → leZ a b ≡ false → y <ℤ x
+i-nle {x = x} {y = y} h k e = nle x y (subst (λ (c : Bool). T (not c)) (sym (rw (h .eq, k .eq) at e)) tt)
+
+-- a parameter of which nothing is known but that it fits; a call's result; a cast from an unsigned number
+pub i-any : {x : ℤ} → SFits w64 x → Reads (toZ w64 (ofZ w64 x)) x 9223372036854775808
+i-any {x} f = i-arg f (record { abs = natAbs-le x (f .sfits) })
+
+pub i-call : {r z : ℤ} {B : ℕ} → mag r < 2 ^ 63 → r ≡ z → z within B → Reads (toZ w64 (ofZ w64 r)) z B
+i-call f e h = record { eq = toZ-ofZ (record { sfits = f }) ∙ e; bound = h }
+
+pub i-cast : {n B : ℕ} → n ≤ B → Room B → Reads (toZ w64 n) (pos n) B
+i-cast h k = i-in (record { abs = h }) k
+
+lt-le : (a b : ℤ) → T (ltZ a b) → T (leZ a b)
+lt-le (pos a) (pos b) t = le→leb a b (le-of-lt (ltb→lt a b t))
+lt-le (pos a) (negsuc b) t = t
+lt-le (negsuc a) (pos b) t = t
+lt-le (negsuc a) (negsuc b) t = le→leb b a (le-of-lt (ltb→lt b a t))
+
+pub i-lt→le : {a b : ℤ} → a <ℤ b → a ≤ℤ b
+i-lt→le {a} {b} h = leZ-yes (lt-le a b (h .lt))
+
+-- the size of a number, as `if x < 0 { -x } else { x }` computes it
+pub size-neg : (x : ℤ) → x <ℤ pos 0 → pos 0 -ℤ x ≡ pos (natAbs x)
+size-neg (pos n) h = absurd (below n (ltb→lt n 0 (h .lt)))
+  where
+    below : (n : ℕ) → n < 0 → ⊥
+    below n l = omega arith
+size-neg (negsuc n) h = +ℤ-idl (pos (suc n))
+
+pub size-pos : (x : ℤ) → pos 0 ≤ℤ x → x ≡ pos (natAbs x)
+size-pos (pos n) h = refl
+size-pos (negsuc n) h = absurd (h .le)
+
+-- what a call returned and a local keeps, read again
+pub kept : {z v : ℤ} → mag z < 2 ^ 63 → z ≡ v → toZ w64 (ofZ w64 z) ≡ v
+kept m e = toZ-ofZ (record { sfits = m }) ∙ e
+
+-- what the rounding functions ask: twice either number fits, and the divisor is positive
+pub record Rounds (x d : ℤ) : Type 0 where
+  pub numerator : x within 2305843009213693951
+  pub divisor : d within 2305843009213693951
+  pub positive : pos 0 <ℤ d
+
+pub rounds : {t u x d : ℤ} {A B : ℕ} → Reads t x A → Reads u d B → A ≤ 2305843009213693951 → B ≤ 2305843009213693951 → pos 0 <ℤ d → Rounds t u
+rounds h k a b p = record {
+  numerator = i-within (i≤ h a);
+  divisor = i-within (i≤ k b);
+  positive = subst (λ (z : ℤ). pos 0 <ℤ z) (sym (k .eq)) p;
+}

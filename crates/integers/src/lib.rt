@@ -1,0 +1,53 @@
+// Whole-number functions that the other crates call: rounding, size, root.
+ghost use mathlib.Core.Path.{_≡_};
+ghost use lib.IntN.{natAbs};
+ghost use Rattle.integers.specs.Rounding.{awayFromZero, toGrain};
+ghost use Rattle.integers.specs.Root.{root};
+ghost use Rattle.integers.specs.Words.{Rounds};
+
+// x / d to the nearest whole number, a half away from zero: for millionths and whole units.
+pub fn away_from_zero(x: i64, d: i64) -> i64
+    requires { ⌜ Rounds x d ⌝ }
+    ensures { λ r. ⌜ r ≡ awayFromZero x (natAbs d) ⌝ }
+{
+    if x < 0 {
+        (2 * x - d) / (2 * d)
+    } else {
+        (2 * x + d) / (2 * d)
+    }
+}
+
+// x / d to the nearest grain.
+pub fn to_grain(x: i64, d: i64) -> i64
+    requires { ⌜ Rounds x d ⌝ }
+    ensures { λ r. ⌜ r ≡ toGrain x (natAbs d) ⌝ }
+{
+    away_from_zero(x, d)
+}
+
+// The size of a number.
+pub fn size(x: i64) -> u64
+    ensures { λ r. ⌜ r ≡ natAbs x ⌝ }
+{
+    if x < 0 { (-1 - x) as u64 + 1 } else { x as u64 }
+}
+
+// The greatest whole number whose square is not above x: lo is not too large, hi is.
+pub fn root(x: u64) -> u64
+    ensures { λ r. ⌜ r ≡ root x ⌝ }
+{
+    let mut lo: u64 = 0;
+    let mut hi: u64 = 4294967296;
+    let found = loop {
+        if hi - lo <= 1 {
+            break lo;
+        }
+        let mid = (lo + hi) / 2;
+        if mid * mid <= x {
+            lo = mid;
+        } else {
+            hi = mid;
+        }
+    };
+    found
+}

@@ -1,0 +1,3 @@
+-- The crate's root.
+pub mod Limits
+pub mod Sheet

@@ -1,0 +1,21 @@
+-- Document 01, "Units and rounding": the limits, each under one name.
+use Prim.Native.Nat.{ℕ}
+
+-- n: 72 to 600
+abbrev pub leastMonths : ℕ
+leastMonths = 72
+
+abbrev pub mostMonths : ℕ
+mostMonths = 600
+
+-- start month: 1 to 12; the months of a year, and the period of a desk file
+abbrev pub year : ℕ
+year = 12
+
+-- figure: -200,000 to 200,000
+abbrev pub largestFigure : ℕ
+largestFigure = 200_000
+
+-- weights of extremes are thousandths, 0 to 1,000
+abbrev pub fullWeight : ℕ
+fullWeight = 1000

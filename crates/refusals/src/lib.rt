@@ -1,0 +1,67 @@
+// The refusal sheet of document 01, and the limits that it speaks of.
+ghost use mathlib.Core.Path.{_≡_};
+ghost use Rattle.refusals.specs.Sheet.{row};
+
+// Months in a series.
+pub const LEAST_MONTHS: usize = 72;
+
+pub const MOST_MONTHS: usize = 600;
+
+// Months in a year: the last start month, and the period of a desk file.
+pub const YEAR: usize = 12;
+
+// A figure's size, in units.
+pub const LARGEST_FIGURE: i32 = 200000;
+
+// A month that counts in full, in thousandths.
+pub const FULL_WEIGHT: u16 = 1000;
+
+// The rows of the sheet, in its order; a row with a place carries it.
+pub enum Refusal {
+    TooShort,
+    TooLong,
+    BadStart,
+    WrongLength,
+    FigureOutside(usize),
+    EmptyGroup,
+    NoHeader,
+    BadPeriod,
+    BadFileLength,
+    WeightAbove(usize),
+}
+
+// The refusal's number on the sheet.
+pub fn number(r: Refusal) -> u8
+    ensures { λ n. ⌜ n ≡ row r .number ⌝ }
+{
+    match r {
+        Refusal::TooShort => 1,
+        Refusal::TooLong => 2,
+        Refusal::BadStart => 3,
+        Refusal::WrongLength => 4,
+        Refusal::FigureOutside(_) => 5,
+        Refusal::EmptyGroup => 6,
+        Refusal::NoHeader => 7,
+        Refusal::BadPeriod => 8,
+        Refusal::BadFileLength => 9,
+        Refusal::WeightAbove(_) => 10,
+    }
+}
+
+// The place that the refusal tells, 0 for those without one.
+pub fn place(r: Refusal) -> usize
+    ensures { λ t. ⌜ t ≡ row r .place ⌝ }
+{
+    match r {
+        Refusal::TooShort => 0,
+        Refusal::TooLong => 0,
+        Refusal::BadStart => 0,
+        Refusal::WrongLength => 0,
+        Refusal::FigureOutside(t) => t,
+        Refusal::EmptyGroup => 0,
+        Refusal::NoHeader => 0,
+        Refusal::BadPeriod => 0,
+        Refusal::BadFileLength => 0,
+        Refusal::WeightAbove(t) => t,
+    }
+}
