@@ -1,0 +1,6 @@
+-- Laws of the filters.
+pub mod Tests
+pub mod Distances
+pub mod Largest
+pub mod Rows
+pub mod Window

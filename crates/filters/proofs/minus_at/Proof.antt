@@ -1,0 +1,35 @@
+-- `filters::minus_at` meets its contract: both numbers are small enough for their difference to fit.
+-- Assumes nothing.
+use borrow.Author.Needs.{needs}
+use Rattle.integers.specs.Words.{i-, i-fits, i-kept, i-in}
+use Rattle.filters.proofs.minus_at.Statement.{statement}
+use Rattle.filters.proofs.minus_at.Tie as tie
+
+mul-result : tie.Need-mul-result
+mul-result c = search needs
+
+shared-slice-copy-out-result : tie.Need-shared-slice-copy-out-result
+shared-slice-copy-out-result c = search needs
+
+mul-result-2 : tie.Need-mul-result-2
+mul-result-2 c = search needs
+
+shared-slice-copy-out-result-2 : tie.Need-shared-slice-copy-out-result-2
+shared-slice-copy-out-result-2 c = search needs
+
+sub-result : tie.Need-sub-result
+sub-result c = let s = c .before .before in i-fits (i- (i-in (s .pre .0 .left .at (s .args .t)) tt) (i-in (s .pre .0 .right .at (s .args .t)) tt)) tt
+
+returns : tie.Need-returns
+returns c = let s = c .before .before in i-kept (i- (i-in (s .pre .0 .left .at (s .args .t)) tt) (i-in (s .pre .0 .right .at (s .args .t)) tt)) tt .eq
+
+pub minus-at-spec : {M : Type 1} → statement M
+minus-at-spec =
+    tie.close
+    (tie.spec
+    mul-result
+    shared-slice-copy-out-result
+    mul-result-2
+    shared-slice-copy-out-result-2
+    sub-result
+    returns)

@@ -1,0 +1,48 @@
+-- What the code of the filters asks of its arguments. Nothing here is promised to a caller of the desk.
+use mathlib.Core.Path.{_≡_}
+use mathlib.Core.List.{List}
+use Prim.Native.Nat.{ℕ, _+_, _*_, _≤_, _<_}
+use lib.ListN.{length}
+use lib.IntN.{ℤ}
+use Rattle.integers.specs.Lists.{_‼_, AllWithin}
+use Rattle.integers.specs.Sums.{norm}
+use Rattle.filters.specs.Filter.{Table, weightAt}
+
+-- no number that is filtered is larger: times the largest norm, 1,300,000, and doubled, it fits in 64 bits
+abbrev pub largest : ℕ
+largest = 1_700_000_000_000
+
+abbrev pub table : ℕ → ℕ → ℕ → List ℤ → ℕ → ℕ → Table
+table half step width rows middle ends = record { half = half; step = step; width = width; rows = rows; middle = middle; ends = ends }
+
+-- m weights from `at` on, whose sizes sum to little, and the values that they meet
+pub record Dots (w : List ℤ) (at m : ℕ) (x : List ℤ) (from step : ℕ) : Type 0 where
+  pub room : at + m ≤ length w
+  pub light : norm m (λ k. w ‼ (at + k)) ≤ 1_300_000
+  pub places : (k : ℕ) → k < m → from + k * step < length x
+  pub small : AllWithin largest x
+
+-- a series that can be filtered
+pub record Filterable (x : List ℤ) : Type 0 where
+  pub short : length x ≤ 600
+  pub small : AllWithin largest x
+
+-- a table that can be read
+pub record Readable (F : Table) : Type 0 where
+  pub half-most : F .half ≤ 15
+  pub step-least : 1 ≤ F .step
+  pub step-most : F .step ≤ 12
+  pub width-most : F .width ≤ 31
+  pub rows-long : 2 * F .half * F .width + (2 * F .half + 1) ≤ length (F .rows)
+  pub light : (r : ℕ) → r < 2 * F .half + 1 → norm (2 * F .half + 1) (weightAt F r) ≤ 1_300_000
+  pub middle-least : 1 ≤ F .middle
+  pub ends-least : 1 ≤ F .ends
+  pub middle-most : F .middle ≤ 1_000_000
+  pub ends-most : F .ends ≤ 1_000_000
+
+-- both slices of a difference
+pub record Minusable (x y : List ℤ) : Type 0 where
+  pub short : length x ≤ 600
+  pub long : length y ≡ length x
+  pub left : AllWithin largest x
+  pub right : AllWithin largest y

@@ -1,0 +1,61 @@
+-- Where Henderson's rows come from, in whole numbers: the closed formula of 003 for the middle row, Musgrave's of 003 for the ends.
+-- proofs/Rows.antt shows that the stored table obeys both.
+use mathlib.Core.Bool.{cond}
+use mathlib.Core.List.{List}
+use Prim.Native.Nat.{ℕ, _+_, _*_, _-_, _/_, _%_}
+use lib.Dec.{ltb, eqb}
+use lib.IntN.{ℤ, pos, _+ℤ_, _-ℤ_, _*ℤ_}
+use Rattle.integers.specs.Lists.{_‼_, tab}
+use Rattle.integers.specs.Rounding.{awayFromZero}
+use Rattle.integers.specs.Sums.{sumZ}
+
+-- ---- the closed formula. n is two more than the terms on one side; n² - 1 stands for the printed (n - 1)² of the denominator.
+-- The weight i places from the centre is closedOver n i over closedUnder n
+unfoldable pub closedUnder : ℕ → ℕ
+closedUnder n = 8 * n * (n * n - 1) * (4 * n * n - 1) * (4 * n * n - 9) * (4 * n * n - 25)
+
+unfoldable pub closedOver : ℕ → ℕ → ℤ
+closedOver n i =
+    pos (315 * ((n - 1) * (n - 1) - i * i) * (n * n - i * i) * ((n + 1) * (n + 1) - i * i)) *ℤ (pos (3 * n * n) -ℤ pos (16 + 11 * i * i))
+
+-- all 2p + 1 of them, oldest first: place j is p - j or j - p places from the centre
+unfoldable pub closedRow : ℕ → List ℤ
+closedRow p = tab (2 * p + 1) (λ j. closedOver (p + 2) ((p - j) + (j - p)))
+
+-- ---- Musgrave's weights for M values, from 2p + 1 symmetric weights w over W, with D = P / R.
+-- Places count from 0, so that the formula's j is j + 1 here and its j - (M + 1) / 2 is half of `offset j`
+module _ (p W P R : ℕ) (w : List ℤ) (M : ℕ) where
+  abbrev offset : ℕ → ℤ
+  offset j = pos (2 * j + 1) -ℤ pos M
+
+  -- over the weights that find no value: their sum, over W, and the sum of offset times weight, over 2 W
+  abbrev missing : ℤ
+  missing = sumZ (2 * p + 1 - M) (λ i. w ‼ (M + i))
+
+  abbrev tilt : ℤ
+  tilt = sumZ (2 * p + 1 - M) (λ i. offset (M + i) *ℤ (w ‼ (M + i)))
+
+  -- D / (1 + M (M - 1) (M + 1) / 12 D) is 12 P over this
+  abbrev under : ℕ
+  under = 12 * R + M * (M - 1) * (M + 1) * P
+
+  -- w j + missing / M + offset j * 3 P * tilt / under, all over W: as a whole number over W M under
+  abbrev musgraveOver : ℕ → ℤ
+  musgraveOver j = pos (M * under) *ℤ (w ‼ j) +ℤ pos under *ℤ missing +ℤ pos (3 * M * P) *ℤ (offset j *ℤ tilt)
+
+  -- rounded to the nearest millionth, a half away from zero
+  abbrev millionths : ℕ → ℤ
+  millionths j = awayFromZero (pos 1_000_000 *ℤ musgraveOver j) (W * M * under)
+
+  -- the present month, p places from the oldest, is 1,000,000 less the others
+  unfoldable pub endWeight : ℕ → ℤ
+  endWeight j = cond (eqb j p) (pos 1_000_000 -ℤ sumZ M (λ i. cond (eqb i p) (pos 0) (millionths i))) (millionths j)
+
+-- ---- the whole table. Weight k of row r: rows after the middle one have fewer values after them; rows before it are those, mirrored
+unfoldable pub tableAt : ℕ → ℕ → ℕ → ℕ → List ℤ → ℕ → ℕ → ℤ
+tableAt p W P R w r k =
+    cond (ltb r p) (cond (ltb (p + r) k) (pos 0) (endWeight p W P R w (p + 1 + r) (p + r - k)))
+    (cond (ltb p r) (cond (ltb (3 * p - r) k) (pos 0) (endWeight p W P R w (3 * p + 1 - r) k)) (w ‼ k))
+
+unfoldable pub hendersonRows : ℕ → ℕ → ℕ → ℕ → List ℤ → List ℤ
+hendersonRows p W P R w = tab ((2 * p + 1) * (2 * p + 1)) (λ i. tableAt p W P R w (i / (2 * p + 1)) (i % (2 * p + 1)))
