@@ -4,3 +4,4 @@ pub mod Distances
 pub mod Largest
 pub mod Rows
 pub mod Window
+pub mod Book
