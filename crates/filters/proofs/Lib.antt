@@ -5,3 +5,4 @@ pub mod Largest
 pub mod Rows
 pub mod Window
 pub mod Book
+pub mod Lengths
