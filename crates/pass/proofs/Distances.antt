@@ -92,6 +92,6 @@ module _ (x : List ℤ) where
   passed e f = record {
     trend = e;
     seasonal = f;
-    trend-near = rw e (grains 4 (omega arith) t2);
-    seasonal-near = rw f (grains 10 (omega arith) s2);
+    trend-near = rw e (grains _ (omega arith) t2);
+    seasonal-near = rw f (grains _ (omega arith) s2);
   }

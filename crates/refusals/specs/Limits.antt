@@ -1,5 +1,9 @@
--- Document 01, "Units and rounding": the limits, each under one name.
+-- Document 01, "Units and rounding": the unit and the limits, each under one name.
 use Prim.Native.Nat.{ℕ}
+
+-- a grain is one thousandth of a unit
+abbrev pub unit : ℕ
+unit = 1000
 
 -- n: 72 to 600
 abbrev pub leastMonths : ℕ

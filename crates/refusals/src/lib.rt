@@ -2,6 +2,9 @@
 ghost use mathlib.Core.Path.{_≡_};
 ghost use Rattle.refusals.specs.Sheet.{row};
 
+// Grains in a unit.
+pub const UNIT: i64 = 1000;
+
 // Months in a series.
 pub const LEAST_MONTHS: usize = 72;
 

@@ -1,0 +1,161 @@
+-- Sums over the months of a group, and what dropping leaves of it.
+use Prim.Native.Nat.{ℕ, suc, _+_, _*_, _-_, _/_, _≤_, _<_}
+use mathlib.Core.Path.{_≡_, refl, sym, ap, _∙_}
+use mathlib.Core.Bool.{Bool, true, false, cond}
+use mathlib.Core.List.{List, [], _∷_}
+use native.Mathlib.Nat.{mul-le-mul, suc-mul, le-div-iff-mul-le, div-le-of-le-mul}
+use native.Mathlib.Decide.{decLe}
+use native.Mathlib.Numerals.{add-one}
+use native.Mathlib.Omega.{arith}
+use lib.Dec.{ltb}
+use lib.ListN.{length, getD}
+use lib.Seq.{slice-cons, slice-empty, length-slice}
+use borrow.Author.Tests.{ltb-true, lt-ltb, le-ltb, eq-eqb, ne-eqb}
+use Rattle.integers.specs.Root.{root}
+use Rattle.integers.specs.RootLaws.{root-is}
+use Rattle.refusals.specs.Limits.{mostMonths}
+use Rattle.extremes.specs.Years.{months}
+use Rattle.extremes.specs.Spreads.{squares, spread, keep, remaining, spreadOf}
+use Rattle.extremes.specs.Contracts.{largestSize}
+use Rattle.extremes.specs.declared.Spread.{Spread}
+use Rattle.extremes.specs.declared.Spread.the-variants.{Of, Nothing}
+use Rattle.extremes.proofs.ListLaws.{AllBelow, below-tail, below-cons, below-slice}
+
+-- ---- the months from lo to below hi, from the first on
+module _ (l : List ℕ) where
+  months-none : (hi : ℕ) → months hi hi l ≡ []
+  unfolding months
+  months-none hi = slice-empty hi l
+
+  months-next : (t hi : ℕ) → t < hi → hi ≤ length l → months t hi l ≡ getD l t 0 ∷ months (t + 1) hi l
+  unfolding months
+  months-next t hi h k = rw (add-one, slice-cons t hi l 0 h k)
+
+  pub length-months : (lo hi : ℕ) → hi ≤ length l → length (months lo hi l) ≡ hi - lo
+  unfolding months
+  length-months lo hi k = length-slice lo hi l k
+
+pub months-below : {b : ℕ} (lo hi : ℕ) {l : List ℕ} → AllBelow b l → AllBelow b (months lo hi l)
+unfolding months
+months-below lo hi h = below-slice lo hi h
+
+-- ---- what stays under a limit
+keep-in : (limit a : ℕ) (g : List ℕ) → 2 * a ≤ limit → keep limit (a ∷ g) ≡ a ∷ keep limit g
+unfolding keep
+keep-in limit a g h = rw (le-ltb limit (2 * a) h)
+
+keep-out : (limit a : ℕ) (g : List ℕ) → limit < 2 * a → keep limit (a ∷ g) ≡ keep limit g
+unfolding keep
+keep-out limit a g h = rw (lt-ltb limit (2 * a) h)
+
+-- a limit that drops nothing
+pub keep-all : (limit b : ℕ) (g : List ℕ) → 2 * b ≤ limit → AllBelow b g → keep limit g ≡ g
+unfolding keep
+keep-all limit b [] h k = refl
+keep-all limit b (a ∷ g) h k = keep-in limit a g (omega (arith, k .at 0)) ∙ ap (λ (r : List ℕ). a ∷ r) (keep-all limit b g h (below-tail k))
+
+-- fewer months, none larger
+keep-length : (limit : ℕ) (g : List ℕ) → length (keep limit g) ≤ length g
+unfolding keep
+keep-length limit [] = omega arith
+keep-length limit (a ∷ g) = go (ltb limit (2 * a)) (keep-length limit g)
+  where
+    go : (c : Bool) → length (keep limit g) ≤ length g → length (cond c (keep limit g) (a ∷ keep limit g)) ≤ suc (length g)
+    go true i = omega arith
+    go false i = omega arith
+
+keep-below : (limit b : ℕ) (g : List ℕ) → AllBelow b g → AllBelow b (keep limit g)
+unfolding keep
+keep-below limit b [] h = h
+keep-below limit b (a ∷ g) h = go (ltb limit (2 * a)) (keep-below limit b g (below-tail h))
+  where
+    go : (c : Bool) → AllBelow b (keep limit g) → AllBelow b (cond c (keep limit g) (a ∷ keep limit g))
+    go true i = i
+    go false i = below-cons (h .at 0) i
+
+-- ---- the sum of the squares, and the spread, of sizes that are at most b
+squares-most : (b : ℕ) (g : List ℕ) → AllBelow b g → squares g ≤ length g * (b * b)
+unfolding squares
+squares-most b [] h = omega arith
+squares-most b (a ∷ g) h = omega (arith, mul-le-mul (h .at 0) (h .at 0), squares-most b g (below-tail h), suc-mul (length g) (b * b))
+
+pub spread-most : (b : ℕ) (g : List ℕ) → AllBelow b g → spread g ≤ b
+unfolding spread
+spread-most b g h = go (root-is (squares g / length g) .not-above) (decLe (spread g) b)
+  where
+    go : spread g * spread g ≤ squares g / length g → Dec (spread g ≤ b) → spread g ≤ b
+    go l (yes m) = m
+    go l (no m) = let k : b + 1 ≤ spread g = omega arith in absurd (omega (arith, l, mul-le-mul k k, div-le-of-le-mul (length g) (squares-most b g h)))
+
+-- sums and counts that the code holds
+pub sums-small : (limit : ℕ) (g : List ℕ) → AllBelow largestSize g → length g ≤ mostMonths → (squares (keep limit g) ≤ mostMonths * (largestSize * largestSize)) × (length (keep limit g) ≤ mostMonths)
+sums-small limit g h k = omega (arith, keep-length limit g, squares-most largestSize (keep limit g) (keep-below limit largestSize g h))
+
+pub kept-most : (limit b : ℕ) (g : List ℕ) → AllBelow b g → spread (keep limit g) ≤ b
+kept-most limit b g h = spread-most b (keep limit g) (keep-below limit b g h)
+
+-- ---- dropping leaves a month: were all dropped, all sizes would be above the first spread, and the spread larger
+all-above : (s : ℕ) (g : List ℕ) → length (keep (5 * s) g) ≡ 0 → length g * ((s + 1) * (s + 1)) ≤ squares g
+unfolding keep squares
+all-above s [] h = omega arith
+all-above s (a ∷ g) h = go (ltb (5 * s) (2 * a)) refl h (all-above s g)
+  where
+    go : (b : Bool) → ltb (5 * s) (2 * a) ≡ b → length (cond b (keep (5 * s) g) (a ∷ keep (5 * s) g)) ≡ 0
+        → (length (keep (5 * s) g) ≡ 0 → length g * ((s + 1) * (s + 1)) ≤ squares g) → suc (length g) * ((s + 1) * (s + 1)) ≤ a * a + squares g
+    go true e k i = let l : s + 1 ≤ a = omega (arith, ltb-true (5 * s) (2 * a) e) in
+        omega (arith, mul-le-mul l l, i k, suc-mul (length g) ((s + 1) * (s + 1)))
+    go false e k i = absurd (omega arith)
+
+pub some-remain : (g : List ℕ) → 0 < length g → length (remaining g) ≡ 0 → ⊥
+unfolding remaining spread
+some-remain g l h =
+    let q : (spread g + 1) * (spread g + 1) ≤ squares g / length g = le-div-iff-mul-le l .1 (omega (arith, all-above (spread g) g h)) in
+    omega (arith, root-is (squares g / length g) .greatest (spread g + 1) q)
+
+-- ---- the code's sum and count, with the months still to come
+pub record Summing (limit : ℕ) (g rest : List ℕ) (sum count : ℕ) : Type 0 where
+  pub total : sum + squares (keep limit rest) ≡ squares (keep limit g)
+  pub number : count + length (keep limit rest) ≡ length (keep limit g)
+
+pub summing-as : {limit s n sum count : ℕ} {g rest : List ℕ} → Summing limit g rest s n → sum ≡ s → count ≡ n → Summing limit g rest sum count
+summing-as h d e = record { total = omega arith; number = omega arith }
+
+-- one more month
+module _ (l : List ℕ) (t hi : ℕ) (below : t < hi) (inside : hi ≤ length l) {limit a sum count : ℕ} {g : List ℕ} (h : Summing limit g (months t hi l) sum count) (e : a ≡ getD l t 0) where
+  next : months t hi l ≡ a ∷ months (t + 1) hi l
+  next = months-next l t hi below inside ∙ ap (λ (b : ℕ). b ∷ months (t + 1) hi l) (sym e)
+
+  pub month-in : 2 * a ≤ limit → Summing limit g (months (t + 1) hi l) (sum + a * a) (count + 1)
+  unfolding squares
+  month-in m = let k = ap (keep limit) next ∙ keep-in limit a (months (t + 1) hi l) m in
+      record { total = omega (arith, ap squares k, h .total); number = omega (arith, ap length k, h .number) }
+
+  pub month-out : limit < 2 * a → Summing limit g (months (t + 1) hi l) sum count
+  month-out m = let k = ap (keep limit) next ∙ keep-out limit a (months (t + 1) hi l) m in
+      record { total = omega (arith, ap squares k, h .total); number = omega (arith, ap length k, h .number) }
+
+pub summing-done : (l : List ℕ) {limit t hi sum count : ℕ} {g : List ℕ} → t ≡ hi → Summing limit g (months t hi l) sum count → (sum ≡ squares (keep limit g)) × (count ≡ length (keep limit g))
+unfolding keep squares
+summing-done l {limit} {t} {hi} {sum} {count} {g} e h =
+    let k = ap (λ (u : ℕ). months u hi l) e ∙ months-none l hi in
+    (omega (arith, h .total, ap (λ (r : List ℕ). squares (keep limit r)) k), omega (arith, h .number, ap (λ (r : List ℕ). length (keep limit r)) k))
+
+-- ---- the answer by a sum and a count
+pub spread-none : (g : List ℕ) → length g ≡ 0 → Nothing ≡ spreadOf g
+unfolding spreadOf
+spread-none g e = rw (eq-eqb (length g) 0 e)
+
+pub spread-is : (g : List ℕ) → (length g ≡ 0 → ⊥) → spreadOf g ≡ Of (spread g)
+unfolding spreadOf
+spread-is g e = rw (ne-eqb (length g) 0 e)
+
+pub spread-some : (g : List ℕ) {r sum count : ℕ} → 0 < count → sum ≡ squares g → count ≡ length g → r ≡ root (sum / count) → Of r ≡ spreadOf g
+unfolding spread
+spread-some g {r} l d e f = let s : r ≡ spread g = cc in ap Of s ∙ sym (spread-is g (λ z. omega arith))
+
+-- ---- what an answer tells
+pub of-or-nothing : {r : Spread} {n : ℕ} → r ≡ Of n → r ≡ Nothing → ⊥
+of-or-nothing h k = let z : _≡_ {A = ℕ} 0 1 = cc in omega arith
+
+pub of-same : {r : Spread} {m n : ℕ} → r ≡ Of m → r ≡ Of n → m ≡ n
+of-same h k = cc

@@ -1,0 +1,199 @@
+// Spreads, weights and corrections: document 01, "Spread and weights". Sizes and spreads are in whole units.
+ghost use mathlib.Core.Path.{_≡_};
+ghost use mathlib.Core.List.{map};
+ghost use Prim.Native.Nat.{_≤_, _<_};
+ghost use lib.ListN.{length, getD};
+ghost use lib.IntN.{pos};
+ghost use Rattle.integers.specs.Sizes.{_within_};
+ghost use Rattle.integers.specs.Lists.{AllWithin};
+ghost use Rattle.integers.specs.Rounding.{nearest};
+ghost use Rattle.integers.specs.Filling.{Filled};
+ghost use Rattle.refusals.specs.Limits.{mostMonths, year, fullWeight};
+ghost use Rattle.extremes.specs.Years.{years, yearStart, months, centre, group};
+ghost use Rattle.extremes.specs.Spreads.{sizeOf, sizesOf, keep, remaining, spreadOf};
+ghost use Rattle.extremes.specs.Weighing.{weight, weightBy, weightsBy, answerBy, correctionOf};
+ghost use Rattle.extremes.specs.Contracts.{largestIrregular, largestSize, Calendar, Weighable, Outcome, sizesIn, Range};
+
+// A limit that drops no month: twice the largest size.
+const NO_LIMIT: u64 = 220_000_000;
+
+// A spread, or nothing where there is no month to take it of.
+enum Spread {
+    Of(u64),
+    Nothing,
+}
+
+// The weights are filled, or dropping left a group empty.
+pub enum Weighed {
+    Weights,
+    EmptyGroup,
+}
+
+// How many calendar years n months from the start month touch.
+fn years(start: usize, n: usize) -> usize
+    requires { ⌜ Calendar start n ⌝ }
+    ensures { λ r. ⌜ r ≡ years start n ⌝ }
+{
+    (start - 1 + (n - 1)) / refusals::YEAR + 1
+}
+
+// The first of n months in year y, and n where that year comes after the end.
+fn year_start(start: usize, n: usize, y: usize) -> usize
+    requires { ⌜ (1 ≤ start) × (start ≤ year) × (y ≤ mostMonths) ⌝ }
+    ensures { λ r. ⌜ r ≡ yearStart start n y ⌝ }
+{
+    if refusals::YEAR * y < start {
+        return 0;
+    }
+    let first = refusals::YEAR * y - (start - 1);
+    if first < n { first } else { n }
+}
+
+// The year whose group year y uses, of so many years.
+fn centre(count: usize, y: usize) -> usize
+    requires { ⌜ 5 ≤ count ⌝ }
+    ensures { λ r. ⌜ r ≡ centre count y ⌝ }
+{
+    if y < 2 {
+        return 2;
+    }
+    if y < count - 3 { y } else { count - 3 }
+}
+
+// The size of a month's irregular.
+fn size_of(irregular: i64) -> i64
+    requires { ⌜ irregular within largestIrregular ⌝ }
+    ensures { λ r. ⌜ r ≡ pos (sizeOf irregular) ⌝ }
+{
+    integers::size(integers::away_from_zero(irregular, refusals::UNIT)) as i64
+}
+
+// The sizes of all months.
+fn fill_sizes(irregular: &[i64], sizes: &mut [i64])
+    requires { ⌜ AllWithin largestIrregular (now irregular) × (length (now sizes) ≡ length (now irregular)) ⌝ }
+    ensures { λ _. ⌜ now (sizes .exit) ≡ map pos (sizesOf (now (irregular .entry))) ⌝ }
+{
+    for t in 0..irregular.len() {
+        sizes[t] = size_of(irregular[t]);
+    }
+}
+
+// The size of month t.
+fn size_at(sizes: &[i64], t: usize) -> u64
+    requires { ⌜ (t < length (now sizes)) × AllWithin largestSize (now sizes) ⌝ }
+    ensures { λ r. ⌜ (r ≡ getD (sizesIn (now (sizes .entry))) t 0) × (r ≤ largestSize) ⌝ }
+{
+    integers::size(sizes[t])
+}
+
+// The spread of the months from lo to below hi, but for those with twice their size above the limit.
+fn spread_of(sizes: &[i64], lo: usize, hi: usize, limit: u64) -> Spread
+    requires { ⌜ Range lo hi (now sizes) ⌝ }
+    ensures { λ r. ⌜ r ≡ spreadOf (keep limit (months lo hi (sizesIn (now (sizes .entry))))) ⌝ }
+{
+    let mut sum: u64 = 0;
+    let mut count: u64 = 0;
+    for t in lo..hi {
+        let a = size_at(sizes, t);
+        if 2 * a <= limit {
+            sum += a * a;
+            count += 1;
+        }
+    }
+    if count == 0 {
+        return Spread::Nothing;
+    }
+    Spread::Of(integers::root(sum / count))
+}
+
+// The second spread of year y.
+fn year_spread(sizes: &[i64], start: usize, y: usize) -> Spread
+    requires { ⌜ Calendar start (length (now sizes)) × AllWithin largestSize (now sizes) ⌝ }
+    ensures { λ r. ⌜ r ≡ spreadOf (remaining (group start (sizesIn (now (sizes .entry))) y)) ⌝ }
+{
+    let n = sizes.len();
+    let c = centre(years(start, n), y);
+    let lo = year_start(start, n, c - 2);
+    let hi = year_start(start, n, c + 3);
+    let first = spread_of(sizes, lo, hi, NO_LIMIT);
+    let Spread::Of(found) = first else {
+        return Spread::Nothing;
+    };
+    spread_of(sizes, lo, hi, 5 * found)
+}
+
+// n / d to the nearest whole number, a half up.
+fn nearest(n: u64, d: u64) -> u64
+    requires { ⌜ (0 < d) × (n ≤ largestIrregular) × (d ≤ largestSize) ⌝ }
+    ensures { λ r. ⌜ r ≡ nearest n d ⌝ }
+{
+    (2 * n + d) / (2 * d)
+}
+
+// The weight of a month by the second spread of its year and its size.
+fn weight(spread: u64, size: u64) -> u16
+    requires { ⌜ (spread ≤ largestSize) × (size ≤ largestSize) ⌝ }
+    ensures { λ r. ⌜ r ≡ weight spread size ⌝ }
+{
+    if spread == 0 {
+        if size == 0 {
+            return refusals::FULL_WEIGHT;
+        }
+        return 0;
+    }
+    if 5 * spread < 2 * size {
+        return 0;
+    }
+    if 2 * size < 3 * spread {
+        return refusals::FULL_WEIGHT;
+    }
+    (2500 - nearest((refusals::FULL_WEIGHT as u64) * size, spread)) as u16
+}
+
+// The weights of the months from lo to below hi, whose year has this second spread.
+fn fill_year(sizes: &[i64], lo: usize, hi: usize, spread: u64, out: &mut [u16])
+    requires { ⌜ Range lo hi (now sizes) × (length (now out) ≡ length (now sizes)) × (spread ≤ largestSize) ⌝ }
+    ensures { λ _. ⌜ Filled 0 (weightBy spread (sizesIn (now (sizes .entry)))) lo hi (now (out .entry)) (now (out .exit)) ⌝ }
+{
+    for t in lo..hi {
+        out[t] = weight(spread, size_at(sizes, t));
+    }
+}
+
+// Each year's spread once, then the weights of its own months.
+fn weigh_years(sizes: &[i64], start: usize, out: &mut [u16]) -> Weighed
+    requires { ⌜ Calendar start (length (now sizes)) × AllWithin largestSize (now sizes) × (length (now out) ≡ length (now sizes)) ⌝ }
+    ensures { λ r. ⌜ (r ≡ answerBy start (sizesIn (now (sizes .entry)))) × (now (out .exit) ≡ weightsBy start (sizesIn (now (sizes .entry)))) ⌝ }
+{
+    let n = sizes.len();
+    for y in 0..years(start, n) {
+        let found = year_spread(sizes, start, y);
+        let Spread::Of(spread) = found else {
+            return Weighed::EmptyGroup;
+        };
+        let lo = year_start(start, n, y);
+        let hi = year_start(start, n, y + 1);
+        fill_year(sizes, lo, hi, spread, out);
+    }
+    Weighed::Weights
+}
+
+// The weights of an irregular, with a slice to work in.
+pub fn weights(irregular: &[i64], start: u8, sizes: &mut [i64], out: &mut [u16]) -> Weighed
+    requires { ⌜ Weighable start (now irregular) (now sizes) (now out) ⌝ }
+    ensures { λ r. ⌜ Outcome start (now (irregular .entry)) r (now (sizes .exit)) (now (out .exit)) ⌝ }
+{
+    fill_sizes(irregular, sizes);
+    weigh_years(sizes, start as usize, out)
+}
+
+// The irregular times (1,000 less its weight) over 1,000.
+pub fn correction(irregular: i64, weight: u16) -> i64
+    requires { ⌜ (irregular within largestIrregular) × (weight ≤ fullWeight) ⌝ }
+    ensures { λ r. ⌜ r ≡ correctionOf irregular weight ⌝ }
+{
+    integers::to_grain(
+        irregular * ((refusals::FULL_WEIGHT - weight) as i64),
+        refusals::FULL_WEIGHT as i64,
+    )
+}

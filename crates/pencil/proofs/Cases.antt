@@ -1,0 +1,16 @@
+-- The pencil cases, all at once and by computation.
+use mathlib.Core.Path.{_≡_, refl}
+use Rattle.integers.specs.Lists.{tabFrom, tab}
+use Rattle.integers.specs.Root.{oneMore, rootIn, root}
+use Rattle.integers.specs.Rounding.{nearest, awayFromZero, toGrain}
+use Rattle.integers.specs.Sums.{sumZ}
+use Rattle.filters.specs.Filter.{weightAt, denominator, before, after, rowAt, dot, weighed, valueAt, filter, reach, inside}
+use Rattle.filters.specs.Tables.{table2x12, table3x3, table3x5, tableHenderson}
+use Rattle.extremes.specs.Spreads.{squares, spread, keep, remaining, secondSpread}
+use Rattle.extremes.specs.Weighing.{weight, correctionOf}
+use Rattle.pencil.specs.Pencil.{found, wanted, pencil}
+
+pub pencil-holds : found pencil ≡ wanted pencil
+unfolding pencil tabFrom tab oneMore rootIn root nearest awayFromZero toGrain sumZ weightAt denominator before after rowAt dot weighed valueAt filter
+    reach inside table2x12 table3x3 table3x5 tableHenderson squares spread keep remaining secondSpread weight correctionOf
+pencil-holds = refl

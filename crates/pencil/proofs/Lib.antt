@@ -1,0 +1,2 @@
+-- The pencil cases hold.
+pub mod Cases

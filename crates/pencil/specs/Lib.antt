@@ -1,0 +1,2 @@
+-- Document 01, "Pencil cases".
+pub mod Pencil

@@ -1,0 +1,64 @@
+-- Document 01, "Pencil cases": those marked P, in its order. Each line has what the rules give, and what is written there.
+use mathlib.Core.Bool.{cond}
+use mathlib.Core.List.{List, [], _∷_, map}
+use Prim.Native.Nat.{ℕ, _-_}
+use lib.Dec.{eqb}
+use lib.IntN.{ℤ, pos, negsuc}
+use Rattle.integers.specs.Lists.{_‼_, tab}
+use Rattle.integers.specs.Rounding.{toGrain}
+use Rattle.filters.specs.Filter.{filter, inside}
+use Rattle.filters.specs.Tables.{table2x12, table3x3, table3x5, tableHenderson}
+use Rattle.extremes.specs.Spreads.{spread, secondSpread}
+use Rattle.extremes.specs.Weighing.{weight, correctionOf}
+
+infix 5 _gives_
+pub data Case : Type 0 where
+  _gives_ : List ℤ → List ℤ → Case
+
+abbrev pub found : List Case → List (List ℤ)
+found [] = []
+found ((f gives w) ∷ cs) = f ∷ found cs
+
+abbrev pub wanted : List Case → List (List ℤ)
+wanted [] = []
+wanted ((f gives w) ∷ cs) = w ∷ wanted cs
+
+-- 72 months, v at place c and else 0; the numbers at some places
+abbrev one : ℕ → ℕ → List ℤ
+one c v = tab 72 (λ t. cond (eqb t c) (pos v) (pos 0))
+
+abbrev at : List ℤ → List ℕ → List ℤ
+at x places = map (λ t. x ‼ t) places
+
+abbrev whole : List ℕ → List ℤ
+whole = map pos
+
+-- the 2×12 value of place t stands at t - 6
+abbrev at2x12 : List ℤ → List ℕ → List ℤ
+at2x12 x places = at (inside table2x12 x) (map (λ t. t - 6) places)
+
+abbrev group : List ℕ
+group = 0 ∷ 0 ∷ 0 ∷ 1 ∷ []
+
+unfoldable pub pencil : List Case
+pencil =
+    -- 2×12, 24,000 grains at one place, else 0: 2,000 there, 1,000 at six away
+    (at2x12 (one 30 24_000) (30 ∷ 24 ∷ 36 ∷ []) gives whole (2000 ∷ 1000 ∷ 1000 ∷ []))
+    -- Henderson, 16,796 at one place with at least twelve months on each side, else 0: 4,032 there, 3,600 next, -325 at six away
+    ∷ (at (filter tableHenderson (one 30 16_796)) (30 ∷ 29 ∷ 31 ∷ 24 ∷ 36 ∷ []) gives (pos 4032 ∷ pos 3600 ∷ pos 3600 ∷ negsuc 324 ∷ negsuc 324 ∷ []))
+    -- 3×3, run ending in 27,000, else 0: last three results 3,000, 7,000, 11,000. A run ends at places 35, 47, 59, 71
+    ∷ (at (filter table3x3 (one 71 27_000)) (47 ∷ 59 ∷ 71 ∷ []) gives whole (3000 ∷ 7000 ∷ 11_000 ∷ []))
+    -- 3×5, run ending in 60,000, else 0: last four 4,000, 9,000, 15,000, 17,000
+    ∷ (at (filter table3x5 (one 71 60_000)) (35 ∷ 47 ∷ 59 ∷ 71 ∷ []) gives whole (4000 ∷ 9000 ∷ 15_000 ∷ 17_000 ∷ []))
+    -- rounding: 1/2 to 1, -1/2 to -1
+    ∷ (toGrain (pos 1) 2 ∷ toGrain (negsuc 0) 2 ∷ [] gives (pos 1 ∷ negsuc 0 ∷ []))
+    -- σ 100: a 149 and 150 give 1,000; 200 gives 500; 250 and 251 give 0
+    ∷ (whole (map (weight 100) (149 ∷ 150 ∷ 200 ∷ 250 ∷ 251 ∷ [])) gives whole (1000 ∷ 1000 ∷ 500 ∷ 0 ∷ 0 ∷ []))
+    -- σ 3, a 5: weight 833
+    ∷ (whole (weight 3 5 ∷ []) gives whole (833 ∷ []))
+    -- irregular 500 grains, weight 833: correction 84
+    ∷ (correctionOf (pos 500) 833 ∷ [] gives whole (84 ∷ []))
+    -- group 0, 0, 0, 1: both spreads 0, weights 1,000, 1,000, 1,000, 0
+    ∷ (whole (spread group ∷ secondSpread group ∷ []) gives whole (0 ∷ 0 ∷ []))
+    ∷ (whole (map (weight (secondSpread group)) group) gives whole (1000 ∷ 1000 ∷ 1000 ∷ 0 ∷ []))
+    ∷ []
