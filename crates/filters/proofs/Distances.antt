@@ -37,7 +37,7 @@ close-self x = record { long = refl; close = λ t. omega (arith, same (x ‼ t))
     same z = rw (rep z) (simp absℤ (omega arith))
 
 -- ---- a multiple of the denominator
-length-times : (m : ℕ) (e : List ℤ) → length (times m e) ≡ length e
+pub length-times : (m : ℕ) (e : List ℤ) → length (times m e) ≡ length e
 unfolding times
 length-times m [] = refl
 length-times m (z ∷ zs) = ap suc (length-times m zs)

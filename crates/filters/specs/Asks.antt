@@ -12,6 +12,10 @@ use Rattle.filters.specs.Filter.{Table, weightAt}
 abbrev pub largest : ℕ
 largest = 1_700_000_000_000
 
+-- no number that is taken from another is larger: Henderson makes the largest, 13/10 of `largest`, a little larger still
+abbrev pub widest : ℕ
+widest = 2_300_000_000_000
+
 abbrev pub table : ℕ → ℕ → ℕ → List ℤ → ℕ → ℕ → Table
 table half step width rows middle ends = record { half = half; step = step; width = width; rows = rows; middle = middle; ends = ends }
 
@@ -44,5 +48,5 @@ pub record Readable (F : Table) : Type 0 where
 pub record Minusable (x y : List ℤ) : Type 0 where
   pub short : length x ≤ 600
   pub long : length y ≡ length x
-  pub left : AllWithin largest x
-  pub right : AllWithin largest y
+  pub left : AllWithin widest x
+  pub right : AllWithin widest y

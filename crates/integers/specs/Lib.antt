@@ -5,6 +5,7 @@ pub mod Order
 pub mod Sums
 pub mod Lists
 pub mod Filling
+pub mod Fronts
 pub mod Rounding
 pub mod RoundingLaws
 pub mod Root

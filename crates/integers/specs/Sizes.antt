@@ -7,7 +7,7 @@ use native.Mathlib.Omega.{arith}
 use lib.IntN.{ℤ, pos, negsuc, negℤ, natAbs, _+ℤ_, _-ℤ_, _*ℤ_}
 use lib.Dec.{lit<}
 use lib.Signed.{mag}
-use mir.Syntax.{w64}
+use mir.Syntax.{w32, w64}
 use mir.Val.{SFits}
 use Rattle.integers.specs.Differences.{pp, nn, rep, ringℤ, _⊖_, ⊖-ind}
 
@@ -78,13 +78,16 @@ w-tri a b c h k = omega (arith, abs-tri a b c)
 pub w≤ : {a : ℤ} {A B : ℕ} → a within A → A ≤ B → a within B
 w≤ h k = omega arith
 
--- a number within the bound fits
-fits-abs : (z : ℤ) → natAbs z < 2 ^ 63 → mag z < 2 ^ 63
-fits-abs (pos n) h = h
-fits-abs (negsuc n) h = omega arith
+-- a number within the bound fits, in 64 bits and in 32
+fits-abs : (z : ℤ) (b : ℕ) → natAbs z < b → mag z < b
+fits-abs (pos n) b h = h
+fits-abs (negsuc n) b h = omega arith
 
 pub sfits64 : {z : ℤ} {B : ℕ} → z within B → B < 2 ^ 63 → SFits w64 z
-sfits64 {z} h k = record { sfits = fits-abs z (lt-of-le-of-lt (h .abs) k) }
+sfits64 {z} h k = record { sfits = fits-abs z (2 ^ 63) (lt-of-le-of-lt (h .abs) k) }
+
+pub sfits32 : {z : ℤ} {B : ℕ} → z within B → B < 2 ^ 31 → SFits w32 z
+sfits32 {z} h k = record { sfits = fits-abs z (2 ^ 31) (lt-of-le-of-lt (h .abs) k) }
 
 -- a bound of a number, or of a difference, as orders of its parts, for `omega`'s list
 pub w-parts : (z : ℤ) {e : ℕ} → z within e → (pp z ≤ nn z + e) × (nn z ≤ pp z + e)

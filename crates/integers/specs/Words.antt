@@ -8,10 +8,10 @@ use native.Mathlib.Omega.{arith}
 use lib.Dec.{T, ltb, ltb→lt, lt→ltb, nleb→lt, le→leb}
 use lib.IntN.{ℤ, pos, negsuc, negℤ, natAbs, _+ℤ_, _-ℤ_, _*ℤ_, +ℤ-idl}
 use lib.Signed.{quotZ, ltZ, leZ, mag, _<ℤ_, _≤ℤ_, ltZ-yes, ltZ-no, leZ-yes, natAbs-le}
-use mir.Syntax.{w64}
+use mir.Syntax.{w32, w64}
 use mir.Val.{SFits, toZ, ofZ}
 use mir.Facts.{toZ-ofZ}
-use Rattle.integers.specs.Sizes.{_within_, sfits64, w-lit, w+, w-, w*, w≤, abs-neg}
+use Rattle.integers.specs.Sizes.{_within_, sfits32, sfits64, w-lit, w+, w-, w*, w≤, abs-neg}
 
 pub record Reads (t z : ℤ) (B : ℕ) : Type 0 where
   pub eq : t ≡ z
@@ -83,6 +83,10 @@ pos-abs (negsuc n) h = omega arith
 -- a value that is known to be within a bound that fits, as an element of a slice
 pub i-in : {x : ℤ} {B : ℕ} → x within B → Room B → Reads (toZ w64 (ofZ w64 x)) x B
 i-in {B = B} h k = i-arg (sfits64 h (ltb→lt B (2 ^ 63) k)) h
+
+-- an element of a slice of i32
+pub i-in32 : {x : ℤ} {B : ℕ} → x within B → T (ltb B (2 ^ 31)) → Reads (toZ w32 (ofZ w32 x)) x B
+i-in32 {x} {B} h k = record { eq = toZ-ofZ {w = w32} (sfits32 h (ltb→lt B (2 ^ 31) k)); bound = h }
 
 pub i≤ : {t z : ℤ} {A B : ℕ} → Reads t z A → A ≤ B → Reads t z B
 i≤ h k = record { eq = h .eq; bound = w≤ (h .bound) k }

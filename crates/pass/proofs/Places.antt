@@ -1,10 +1,10 @@
 -- The rearrangements of a pass, place by place.
 use mathlib.Core.Path.{_≡_, refl, sym, ap, ap₂, _∙_}
-use mathlib.Core.List.{List, _++_}
+use mathlib.Core.List.{List}
 use Prim.Native.Nat.{ℕ, _+_, _-_, _≤_, _<_}
 use native.Mathlib.Omega.{arith}
 use lib.ListN.{length, take, drop, length-take, length-drop}
-use lib.Seq.{getD-take, getD-drop, length-take-le, take-at, length-front}
+use lib.Seq.{getD-take, getD-drop}
 use lib.IntN.{ℤ, pos, _-ℤ_}
 use Rattle.integers.specs.Lists.{_‼_, tab}
 use Rattle.integers.specs.Filling.{length-tab, at-tab, tab-same}
@@ -23,17 +23,3 @@ pub middle-is : (x : List ℤ) → 12 ≤ length x → take (length x - 6 - 6) (
 unfolding middle pick
 middle-is x h = tab-same (pos 0) (length x - 12) (λ i. x ‼ (i + 6)) (take (length x - 6 - 6) (drop 6 x)) (simp (length-take, length-drop) (omega arith))
     (λ i l. getD-take (length x - 6 - 6) (drop 6 x) i (pos 0) (omega arith) ∙ getD-drop 6 x i (pos 0) ∙ ap (λ (k : ℕ). x ‼ k) (omega arith))
-
--- the front of a slice l, of k numbers, lent to a call that leaves m there
-module _ (k : ℕ) (l : List ℤ) (h : k ≤ length l) where
-  pub front-long : k ≡ length (take k l)
-  front-long = sym (length-take-le k l h)
-
-  pub front-more : (d n : ℕ) → k + d ≡ n → length (take k l) + d ≡ n
-  front-more d n e = rw (length-take-le k l h) e
-
-  pub front-back : (m : List ℤ) → length m ≡ length (take k l) → take k (m ++ drop k l) ≡ m
-  front-back m e = take-at m (drop k l) k (e ∙ length-take-le k l h)
-
-  pub front-kept : (m : List ℤ) → length m ≡ length (take k l) → length (m ++ drop k l) ≡ length l
-  front-kept m e = length-front l m k e

@@ -113,7 +113,7 @@ module _ {x : List ℤ} (s : Series x) where
     both = record {
       short = s .short;
       long = length-s1 x (omega (arith, s .long));
-      left = x-filterable .small;
+      left = larger (s .small) (omega arith);
       right = larger (sizes.s1 half x x-small) (omega arith);
     };
     less = a1-small;
@@ -128,7 +128,7 @@ module _ {x : List ℤ} (s : Series x) where
   minusable2 e = rw e (record {
     short = s .short;
     long = length-t2 x;
-    left = x-filterable .small;
+    left = larger (s .small) (omega arith);
     right = larger (sizes.t2 half x x-small) (omega arith);
   })
 

@@ -7,20 +7,24 @@ pub record Row : Type 0 where
   pub number : ℕ
   pub place : ℕ
 
+-- an answer by number and place; number 0, which the sheet has not, is success
+abbrev pub numbered : ℕ → ℕ → Row
+numbered k t = record { number = k; place = t }
+
 -- a row without a place has place 0
 abbrev pub row : Refusal → Row
 -- n below 72; n above 600; start month outside 1 to 12; a lent slice has the wrong length
-row TooShort = record { number = 1; place = 0 }
-row TooLong = record { number = 2; place = 0 }
-row BadStart = record { number = 3; place = 0 }
-row WrongLength = record { number = 4; place = 0 }
+row TooShort = numbered 1 0
+row TooLong = numbered 2 0
+row BadStart = numbered 3 0
+row WrongLength = numbered 4 0
 -- a figure outside its limits; place of the first
-row (FigureOutside t) = record { number = 5; place = t }
+row (FigureOutside t) = numbered 5 t
 -- dropping leaves a group empty
-row EmptyGroup = record { number = 6; place = 0 }
+row EmptyGroup = numbered 6 0
 -- fewer than 4 bytes; period not 12; file length not 4+6n
-row NoHeader = record { number = 7; place = 0 }
-row BadPeriod = record { number = 8; place = 0 }
-row BadFileLength = record { number = 9; place = 0 }
+row NoHeader = numbered 7 0
+row BadPeriod = numbered 8 0
+row BadFileLength = numbered 9 0
 -- a weight above 1,000; place of the first
-row (WeightAbove t) = record { number = 10; place = t }
+row (WeightAbove t) = numbered 10 t

@@ -1,5 +1,8 @@
 // The refusal sheet of document 01, and the limits that it speaks of.
+ghost use mathlib.Core.Bool.{not};
 ghost use mathlib.Core.Path.{_≡_};
+ghost use Rattle.refusals.specs.First.{firstAbove, firstOutside};
+ghost use Rattle.refusals.specs.Inside.{figureInside, startInside, weightInside};
 ghost use Rattle.refusals.specs.Sheet.{row};
 
 // Grains in a unit.
@@ -67,4 +70,63 @@ pub fn place(r: Refusal) -> usize
         Refusal::BadFileLength => 0,
         Refusal::WeightAbove(t) => t,
     }
+}
+
+// Row 3: a start month outside 1 to 12.
+pub fn start_outside(start: u8) -> bool
+    ensures { λ r. ⌜ r ≡ not (startInside start) ⌝ }
+{
+    if start < 1 {
+        return true;
+    }
+    YEAR < start as usize
+}
+
+// Row 5: a figure outside its limits.
+pub fn figure_outside(figure: i32) -> bool
+    ensures { λ r. ⌜ r ≡ not (figureInside figure) ⌝ }
+{
+    if figure < -LARGEST_FIGURE {
+        return true;
+    }
+    LARGEST_FIGURE < figure
+}
+
+// Row 10: a weight above 1,000.
+pub fn weight_above(weight: u16) -> bool
+    ensures { λ r. ⌜ r ≡ not (weightInside weight) ⌝ }
+{
+    FULL_WEIGHT < weight
+}
+
+// The first bad element: its place, or that there is none.
+pub enum Found {
+    At(usize),
+    Nowhere,
+}
+
+pub fn first_outside(figures: &[i32]) -> Found
+    ensures { λ r. ⌜ r ≡ firstOutside (now (figures .entry)) ⌝ }
+{
+    let mut t = 0;
+    while t < figures.len() {
+        if figure_outside(figures[t]) {
+            return Found::At(t);
+        }
+        t += 1;
+    }
+    Found::Nowhere
+}
+
+pub fn first_above(weights: &[u16]) -> Found
+    ensures { λ r. ⌜ r ≡ firstAbove (now (weights .entry)) ⌝ }
+{
+    let mut t = 0;
+    while t < weights.len() {
+        if weight_above(weights[t]) {
+            return Found::At(t);
+        }
+        t += 1;
+    }
+    Found::Nowhere
 }

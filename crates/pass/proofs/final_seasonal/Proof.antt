@@ -8,7 +8,7 @@ use Rattle.filters.specs.Tables.{table2x12}
 use mathlib.Core.Path.{_≡_, _∙_}
 use native.Mathlib.Omega.{arith}
 use Rattle.pass.specs.Steps.{SI2, R2}
-use Rattle.pass.proofs.Places.{front-long, front-more, front-back, front-kept}
+use Rattle.integers.specs.Fronts.{front-long, front-more, front-back, front-kept}
 use Rattle.pass.proofs.Stages.{minusable2, to-si2, si2-filterable, to-r2, r2-filterable, levels2, to-s2}
 use borrow.Author.Needs.{needs}
 use Rattle.pass.proofs.final_seasonal.Statement.{statement}

@@ -5,7 +5,7 @@ use mathlib.Core.Path.{_≡_, _∙_}
 use mathlib.Core.List.{_++_}
 use native.Mathlib.Omega.{arith}
 use lib.ListN.{length, drop}
-use Rattle.pass.proofs.Places.{front-long, front-more, front-kept}
+use Rattle.integers.specs.Fronts.{front-long, front-more, front-kept}
 use Rattle.pass.proofs.Distances.{passed}
 use Rattle.pass.proofs.Stages.{adjustable, to-t2}
 use borrow.Author.Needs.{needs}

@@ -1,0 +1,96 @@
+use mathlib.Core.Path.{subst}
+use lib.ListN.{length}
+use Rattle.decompose.specs.Promise.{Slices, lengthsOf}
+use Rattle.decompose.specs.Asks.{Passes, Checked}
+use Rattle.decompose.specs.declared.Check.{Check}
+use Rattle.decompose.proofs.Answers.{fits, refused, tables}
+use borrow.Author.Needs.{needs}
+use Rattle.decompose.proofs.decompose.Statement.{statement}
+use Rattle.decompose.proofs.decompose.Tie as tie
+use Rattle.decompose.proofs.decompose.Reads as reads
+use Rattle.decompose.proofs.decompose.Lts as lts
+use Rattle.decompose.proofs.first_refusal.Reads as first-refusal-reads
+use Rattle.decompose.proofs.three_passes.Reads as three-passes-reads
+
+-- the lent slices, and how long they are
+abbrev lent : tie.Start → Slices
+lent s = record { d10 = s .args .d10 .now; d11 = s .args .d11 .now; d12 = s .args .d12 .now; d13 = s .args .d13 .now; b17 = s .args .b17 .now; c17 = s .args .c17 .now; scratch = s .args .scratch .now }
+
+passes : (c : tie.After-enum-told) → let s = c .before .before .before .before .before in Passes (s .args .start) (s .args .figures .now) (lengthsOf (lent s))
+unfolding lengthsOf
+passes c = let r = c .before .before in let s = r .before .before .before in
+    subst (λ (k : Check). Checked k (s .args .start) (s .args .figures .now) (lengthsOf (lent s))) (c .enum-told .given .1) (r .first-refusal .ensures)
+
+-- src/lib.rt:278:9
+first-refusal-requires : tie.Need-first-refusal-requires
+first-refusal-requires c κs = search needs
+
+-- src/lib.rt:279:27
+enum-known-found : tie.Need-enum-known-found
+enum-known-found c = search needs
+
+-- src/lib.rt:280:9
+returns : tie.Need-returns
+unfolding lengthsOf
+returns c = let r = c .before .before .before in let s = r .before .before .before in
+    refused (subst (λ (k : Check). Checked k (s .args .start) (s .args .figures .now) (lengthsOf (lent s))) (c .before .found .given .1) (r .first-refusal .ensures))
+
+enum-told : tie.Need-enum-told
+enum-told c = search needs
+
+-- src/lib.rt:282:5
+three-passes-requires : tie.Need-three-passes-requires
+unfolding lengthsOf
+three-passes-requires c κs = let t = c .before .before .before .before .before .before .before in let s = t .before .before .before .before .before in let f = fits (length (s .args .figures .now)) (lengthsOf (lent s)) (passes t .fits) in
+    (passes t .workable, record { a-long = f .d10-long; b-long = f .d11-long; t-long = f .d12-long; s-long = f .d13-long }, f .b17-long, f .c17-long, f .scratch-long)
+
+-- src/lib.rt:253:1
+same-length : tie.Need-same-length
+same-length c = search needs
+
+-- src/lib.rt:253:1
+same-length-2 : tie.Need-same-length-2
+same-length-2 c = search needs
+
+-- src/lib.rt:253:1
+same-length-3 : tie.Need-same-length-3
+same-length-3 c = search needs
+
+-- src/lib.rt:253:1
+same-length-4 : tie.Need-same-length-4
+same-length-4 c = search needs
+
+-- src/lib.rt:253:1
+same-length-5 : tie.Need-same-length-5
+same-length-5 c = search needs
+
+-- src/lib.rt:253:1
+same-length-6 : tie.Need-same-length-6
+same-length-6 c = search needs
+
+-- src/lib.rt:253:1
+same-length-7 : tie.Need-same-length-7
+same-length-7 c = search needs
+
+-- src/lib.rt:253:1
+returns-2 : tie.Need-returns-2
+returns-2 c = let q = c .before .before .before .before .before .before .before .before .before in let t = q .before .before .before .before .before .before .before .before in let s = t .before .before .before .before .before in let e = q .three-passes .ensures in
+    rw (e .0) (tables {lent = lent s} (passes t) (e .1) (e .2) (e .3) (e .4))
+
+pub decompose-spec : {M : Type 1} → statement M
+decompose-spec =
+    tie.close
+    (tie.spec
+    first-refusal-requires
+    enum-known-found
+    returns
+    enum-told
+    three-passes-requires
+    same-length
+    same-length-2
+    same-length-3
+    same-length-4
+    same-length-5
+    same-length-6
+    same-length-7
+    returns-2)

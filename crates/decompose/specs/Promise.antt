@@ -1,0 +1,106 @@
+-- Document 01, "Refusal sheet": what decomposing answers, and what it leaves in the lent slices, for all inputs.
+use mathlib.Core.Path.{_≡_}
+use mathlib.Core.Bool.{Bool, cond, not, _&&_, _||_}
+use mathlib.Core.List.{List, _++_}
+use Prim.Native.Nat.{ℕ, _*_, _<_}
+use lib.Dec.{ltb, leb, eqb}
+use lib.ListN.{length, drop}
+use lib.IntN.{ℤ, pos}
+use Rattle.integers.specs.Lists.{tab}
+use Rattle.refusals.specs.Limits.{leastMonths, mostMonths}
+use Rattle.refusals.specs.Inside.{startInside}
+use Rattle.refusals.specs.First.{firstOutside, refusedAt}
+use Rattle.refusals.specs.Sheet.{Row, numbered, row}
+use Rattle.extremes.specs.Spreads.{sizesOf}
+use Rattle.extremes.specs.Weighing.{emptied}
+use Rattle.decompose.specs.declared.Lengths.{Lengths}
+use Rattle.decompose.specs.declared.Decomposed.{Decomposed}
+use Rattle.decompose.specs.declared.Decomposed.the-variants.{Tables, Refused}
+use Rattle.decompose.specs.Tables.{B1, B13, B17, C13, C17, D1, D10, D11, D12, D13}
+use Rattle.decompose.specs.Exact.{NearAt}
+
+-- the lent slices
+pub record Slices : Type 0 where
+  pub d10 : List ℤ
+  pub d11 : List ℤ
+  pub d12 : List ℤ
+  pub d13 : List ℤ
+  pub b17 : List ℕ
+  pub c17 : List ℕ
+  pub scratch : List ℤ
+
+-- the scratch is at least 8 n
+abbrev pub scratchFor : ℕ → ℕ
+scratchFor n = 8 * n
+
+-- how long they are
+unfoldable pub lengthsOf : Slices → Lengths
+lengthsOf s =
+    record {
+      d10 = length (s .d10);
+      d11 = length (s .d11);
+      d12 = length (s .d12);
+      d13 = length (s .d13);
+      b17 = length (s .b17);
+      c17 = length (s .c17);
+      scratch = length (s .scratch);
+    }
+
+-- row 4: table and weight slices are exactly n long, the scratch at least 8 n
+unfoldable pub fitting : ℕ → Lengths → Bool
+fitting n l =
+    eqb (l .d10) n && (eqb (l .d11) n && (eqb (l .d12) n && (eqb (l .d13) n && (eqb (l .b17) n && (eqb (l .c17) n && leb (scratchFor n) (l .scratch))))))
+
+-- row 6, "dropping leaves a group empty", in the weights of B13 or of C13
+unfoldable pub groupEmptied : ℕ → List ℤ → Bool
+groupEmptied start figures = emptied start (sizesOf (B13 start figures)) || emptied start (sizesOf (C13 start figures))
+
+-- the answer as the sheet has it: a refusal's number and place; tables have number 0
+abbrev pub reply : Decomposed → Row
+reply Tables = numbered 0 0
+reply (Refused r) = row r
+
+-- checks 1, 2, 3, 4, 5 in this order; n is the number of figures. `next` is the answer where none applies
+unfoldable pub checked : ℕ → List ℤ → Lengths → Row → Row
+checked start figures lent next =
+    let n = length figures in
+    cond (ltb n leastMonths) (numbered 1 0)
+    (cond (ltb mostMonths n) (numbered 2 0)
+    (cond (not (startInside start)) (numbered 3 0)
+    (cond (not (fitting n lent)) (numbered 4 0)
+    (refusedAt (firstOutside figures) (numbered 5)
+    next))))
+
+-- decomposing checks 1, 2, 3, 4, 5, 6; the first that applies is the answer
+unfoldable pub answer : ℕ → List ℤ → Slices → Row
+answer start figures lent = checked start figures (lengthsOf lent) (cond (groupEmptied start figures) (numbered 6 0) (numbered 0 0))
+
+-- the first 8 n entries zero, the rest untouched
+unfoldable pub zeroed : ℕ → List ℤ → List ℤ
+zeroed n scratch = tab (scratchFor n) (λ _. pos 0) ++ drop (scratchFor n) scratch
+
+-- what the slices hold after an answer: the tables and a zeroed scratch; a refusal changes no lent slice, except that 6 leaves the
+-- scratch as success does
+unfoldable pub after : Row → ℕ → List ℤ → Slices → Slices
+after reply start figures s =
+    cond (eqb (reply .number) 0)
+    (record {
+      d10 = D10 start figures;
+      d11 = D11 start figures;
+      d12 = D12 start figures;
+      d13 = D13 start figures;
+      b17 = B17 start figures;
+      c17 = C17 start figures;
+      scratch = zeroed (length figures) (s .scratch);
+    })
+    (cond (eqb (reply .number) 6)
+    (record { d10 = s .d10; d11 = s .d11; d12 = s .d12; d13 = s .d13; b17 = s .b17; c17 = s .c17; scratch = zeroed (length figures) (s .scratch) })
+    s)
+
+-- the promise of decomposing: of its answer r and of the slices as lent and as left
+pub record Promise (start : ℕ) (figures : List ℤ) (lent : Slices) (r : Decomposed) (left : Slices) : Type 0 where
+  pub answered : reply r ≡ answer start figures lent
+  pub slices : left ≡ after (answer start figures lent) start figures lent
+  -- demand 3: where the answer is tables, at each t from 0 to n - 1
+  pub near : reply r ≡ numbered 0 0 → (t : ℕ) → t < length figures
+      → NearAt (B1 start figures) (D1 start figures) (left .d10) (left .d11) (left .d12) (left .d13) t
