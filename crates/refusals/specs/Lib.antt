@@ -5,3 +5,4 @@ pub mod Inside
 pub mod InsideLaws
 pub mod First
 pub mod FirstLaws
+pub mod Checks

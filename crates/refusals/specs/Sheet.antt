@@ -7,7 +7,6 @@ pub record Row : Type 0 where
   pub number : ℕ
   pub place : ℕ
 
--- an answer by number and place; number 0, which the sheet has not, is success
 abbrev pub numbered : ℕ → ℕ → Row
 numbered k t = record { number = k; place = t }
 
@@ -28,3 +27,11 @@ row BadPeriod = numbered 8 0
 row BadFileLength = numbered 9 0
 -- a weight above 1,000; place of the first
 row (WeightAbove t) = numbered 10 t
+
+-- an answer as the document has it: a success with its values, or a refusal's number and place
+pub data Answer (A : Type 0) : Type 0 where
+  success : A → Answer A
+  refusal : (number place : ℕ) → Answer A
+
+abbrev pub refusalOf : {A : Type 0} → Refusal → Answer A
+refusalOf r = refusal (row r .number) (row r .place)

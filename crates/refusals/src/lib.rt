@@ -99,7 +99,7 @@ pub fn weight_above(weight: u16) -> bool
     FULL_WEIGHT < weight
 }
 
-// The first bad element: its place, or that there is none.
+// The first bad element: its place, or that there is none. The loops count the elements that are left.
 pub enum Found {
     At(usize),
     Nowhere,
@@ -108,12 +108,13 @@ pub enum Found {
 pub fn first_outside(figures: &[i32]) -> Found
     ensures { λ r. ⌜ r ≡ firstOutside (now (figures .entry)) ⌝ }
 {
-    let mut t = 0;
-    while t < figures.len() {
+    let mut left = figures.len();
+    while 0 < left {
+        let t = figures.len() - left;
         if figure_outside(figures[t]) {
             return Found::At(t);
         }
-        t += 1;
+        left -= 1;
     }
     Found::Nowhere
 }
@@ -121,12 +122,13 @@ pub fn first_outside(figures: &[i32]) -> Found
 pub fn first_above(weights: &[u16]) -> Found
     ensures { λ r. ⌜ r ≡ firstAbove (now (weights .entry)) ⌝ }
 {
-    let mut t = 0;
-    while t < weights.len() {
+    let mut left = weights.len();
+    while 0 < left {
+        let t = weights.len() - left;
         if weight_above(weights[t]) {
             return Found::At(t);
         }
-        t += 1;
+        left -= 1;
     }
     Found::Nowhere
 }

@@ -1,0 +1,114 @@
+-- The round trips of the desk file. They speak of the promises that `write` and `read` keep (`WriteDone` and `ReadDone` are their contracts).
+use Prim.Native.Nat.{ℕ, _≤_}
+use mathlib.Core.Path.{_≡_, sym, ap, subst, _∙_}
+use mathlib.Core.List.{List, _++_}
+use native.Mathlib.Omega.{arith}
+use lib.IntN.{ℤ, pos, negsuc, natAbs}
+use lib.ListN.{length, take, drop}
+use lib.Seq.{take-at}
+use mir.Syntax.{w32}
+use mir.Val.{SFits}
+use Rattle.refusals.specs.declared.Found.the-variants.{Nowhere}
+use Rattle.refusals.specs.Limits.{largestFigure}
+use Rattle.refusals.specs.First.{firstOutside, firstAbove}
+use Rattle.refusals.specs.FirstLaws.{all-passed}
+use Rattle.refusals.specs.InsideLaws.{figure-inside, weight-inside}
+use Rattle.desk_file.specs.declared.Reading.{Reading}
+use Rattle.desk_file.specs.declared.Reading.the-variants.{Series}
+use Rattle.desk_file.specs.declared.Writing.{Writing}
+use Rattle.desk_file.specs.declared.Writing.the-variants.{Length}
+use Rattle.desk_file.specs.File.{SeriesWithWeights, series, fileBytes, seriesIn}
+use Rattle.desk_file.specs.ReadFile.{ReadDone}
+use Rattle.desk_file.specs.WriteFile.{WriteDone}
+use Rattle.desk_file.specs.RoundTrips.{AreBytes, Storable, ReadAgain, WrittenAgain}
+use Rattle.desk_file.proofs.Arrays.{length-file, series-months, series-start, series-whole}
+use Rattle.desk_file.proofs.ReadAnswers.{Readable, readable, reads}
+use Rattle.desk_file.proofs.WriteAnswers.{Writable, writable, writes}
+use Rattle.desk_file.proofs.Decoding.{count-back, start-back, period-back, file-back, meaning-back}
+
+-- two series with weights that give the same bytes are the same
+pub same-bytes : (s s′ : SeriesWithWeights) → Storable s → Storable s′ → fileBytes s ≡ fileBytes s′ → s ≡ s′
+same-bytes s s′ a a′ e = sym (file-back s a) ∙ ap seriesIn e ∙ file-back s′ a′
+
+-- what writing accepts can be stored
+fits : (z : ℤ) → natAbs z ≤ largestFigure → SFits w32 z
+fits (pos n) h = record { sfits = omega arith }
+fits (negsuc k) h = record { sfits = omega arith }
+
+pub storable : {s : SeriesWithWeights} {room k : ℕ} → Writable s room k → Storable s
+unfolding firstOutside firstAbove
+storable {s} w = record {
+  count = omega (arith, w .most);
+  same = w .same;
+  figuresFit = λ t h. fits _ (figure-inside _ (all-passed {d = pos 0} (w .figuresFit) .each t h));
+  weightsFit = λ t h. omega (arith, weight-inside _ (all-passed {d = 0} (w .weightsFit) .each t h));
+}
+
+-- what `write` writes, `read` reads again unchanged
+pub read-again : (s : SeriesWithWeights) (out₀ out : List ℕ) (k : ℕ) (figures₀ figures : List ℤ) (weights₀ weights : List ℕ) (r : Reading)
+    → WriteDone s out₀ (Length k) out
+    → length (s .figures) ≤ length figures₀
+    → length (s .figures) ≤ length weights₀
+    → ReadDone (take k out) figures₀ weights₀ r figures weights
+    → ReadAgain s figures₀ weights₀ r figures weights
+read-again s out₀ out k figures₀ figures weights₀ weights r d hf hw e =
+    let w = writable s (length out₀) k (sym (d .answer)) in
+    let a = storable w in
+    let same : out ≡ fileBytes s ++ drop k out₀ = rw (sym (d .answer)) at (d .outLeft) in
+    let file : take k out ≡ fileBytes s = ap (take k) same ∙ take-at (fileBytes s) (drop k out₀) k (length-file s (w .same) ∙ sym (w .long)) in
+    let e′ = subst (λ (f : List ℕ). ReadDone f figures₀ weights₀ r figures weights) file e in
+    let figuresFit : firstOutside (seriesIn (fileBytes s) .figures) ≡ Nowhere = rw (file-back s a) (w .figuresFit) in
+    let weightsFit : firstAbove (seriesIn (fileBytes s) .weights) ≡ Nowhere = rw (file-back s a) (w .weightsFit) in
+    let ok : Readable (fileBytes s) (length figures₀) (length weights₀) (length (s .figures)) (s .start) = record {
+      count = sym (count-back s a);
+      begins = sym (start-back s a);
+      least = w .least;
+      most = w .most;
+      startFits = w .startFits;
+      period = period-back s a;
+      size = length-file s (w .same);
+      figuresRoom = hf;
+      weightsRoom = hw;
+      figuresFit = figuresFit;
+      weightsFit = weightsFit;
+    } in
+    let answer = sym (reads ok) in
+    record {
+      answer = e′ .answer ∙ answer;
+      figuresLeft = rw (answer, file-back s a) at (e′ .figuresLeft);
+      weightsLeft = rw (answer, file-back s a) at (e′ .weightsLeft);
+    }
+
+-- whatever `read` accepts, `write` writes again byte for byte
+pub write-again : (file : List ℕ) (figures₀ figures : List ℤ) (weights₀ weights : List ℕ) (n start : ℕ) (out₀ out : List ℕ) (r : Writing)
+    → AreBytes file
+    → ReadDone file figures₀ weights₀ (Series n start) figures weights
+    → length file ≤ length out₀
+    → WriteDone (series start (take n figures) (take n weights)) out₀ r out
+    → WrittenAgain file out₀ r out
+write-again file figures₀ figures weights₀ weights n start out₀ out r b d room e =
+    let ok = readable file (length figures₀) (length weights₀) n start (sym (d .answer)) in
+    let f = seriesIn file .figures in
+    let w = seriesIn file .weights in
+    let nf : length f ≡ n = series-months file n (sym (ok .count)) .0 in
+    let nw : length w ≡ n = series-months file n (sym (ok .count)) .1 in
+    let figuresLeft : figures ≡ f ++ drop n figures₀ = rw (sym (d .answer)) at (d .figuresLeft) in
+    let weightsLeft : weights ≡ w ++ drop n weights₀ = rw (sym (d .answer)) at (d .weightsLeft) in
+    let s : series start (take n figures) (take n weights) ≡ seriesIn file =
+    rw (figuresLeft, weightsLeft, take-at f (drop n figures₀) n nf, take-at w (drop n weights₀) n nw, ok .begins) (sym (series-whole file)) in
+    let e′ = subst (λ (s : SeriesWithWeights). WriteDone s out₀ r out) s e in
+    let fine : Writable (seriesIn file) (length out₀) (length file) = record {
+      long = rw nf (ok .size);
+      least = rw nf (ok .least);
+      most = rw nf (ok .most);
+      startFits = rw (series-start file, ← ok .begins) (ok .startFits);
+      same = nw ∙ sym nf;
+      enough = rw nf (omega (arith, ok .size));
+      figuresFit = ok .figuresFit;
+      weightsFit = ok .weightsFit;
+    } in
+    let answer = sym (writes fine) in
+    record {
+      answer = e′ .answer ∙ answer;
+      outLeft = rw (answer, meaning-back file b n (ok .count) (ok .period) (ok .size)) at (e′ .outLeft);
+    }

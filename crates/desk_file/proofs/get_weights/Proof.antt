@@ -1,0 +1,58 @@
+-- `desk_file::get_weights` meets its contract: the places before t hold the array, the others what they held.
+-- Assumes nothing.
+use Prim.Native.Nat.{_-_, _≤_}
+use native.Mathlib.Omega.{arith}
+use Rattle.integers.specs.Filling.{Filled, filled-none, filled-more, filled-front}
+use Rattle.desk_file.specs.File.{weightAt, weightsAt}
+use Rattle.desk_file.proofs.get_weights.Statement.{statement}
+use Rattle.desk_file.proofs.get_weights.Tie as tie
+
+abbrev Inv-loop : tie.InvT-loop
+Inv-loop file from n weights₀ t₀ weights t = (t ≤ n) × Filled 0 (weightAt file from) 0 t weights₀ weights
+
+abbrev μ-loop : tie.MeasureT-loop
+μ-loop file from n weights₀ t₀ weights t = n - t
+
+loop-holds : tie.Need-loop-holds Inv-loop μ-loop
+loop-holds c = (omega arith, filled-none)
+
+weight-at-requires : tie.Need-weight-at-requires Inv-loop μ-loop
+weight-at-requires c κs = omega arith
+
+mul-weights : tie.Need-mul-weights Inv-loop μ-loop
+mul-weights c = omega arith
+
+slice-write-weights : tie.Need-slice-write-weights Inv-loop μ-loop
+slice-write-weights c = omega (arith, c .before .before .loop .inv .1 .long)
+
+add-t : tie.Need-add-t Inv-loop μ-loop
+add-t c = omega arith
+
+loop-less : tie.Need-loop-less Inv-loop μ-loop
+loop-less c = omega arith
+
+loop-again : tie.Need-loop-again Inv-loop μ-loop
+loop-again c = (omega arith, filled-more (c .before .before .loop .inv .1) (omega arith) (omega (arith, c .before .before .loop .inv .1 .long)) (c .weight-at .ensures))
+
+same-length : tie.Need-same-length Inv-loop μ-loop
+same-length c = c .before .loop .inv .1 .long
+
+returns : tie.Need-returns Inv-loop μ-loop
+unfolding weightsAt
+returns c = filled-front (c .before .loop .inv .1) (omega arith) (omega arith)
+
+pub get-weights-spec : {M : Type 1} → statement M
+get-weights-spec =
+    tie.close
+    (tie.spec
+    Inv-loop
+    μ-loop
+    loop-holds
+    weight-at-requires
+    mul-weights
+    slice-write-weights
+    add-t
+    loop-less
+    loop-again
+    same-length
+    returns)

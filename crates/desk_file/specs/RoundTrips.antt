@@ -1,0 +1,36 @@
+-- What the theorems of the round trip say (they stand in proofs/RoundTrip.antt).
+use Prim.Native.Nat.{ℕ, _^_, _<_}
+use mathlib.Core.Path.{_≡_}
+use mathlib.Core.List.{List, _++_}
+use lib.IntN.{ℤ}
+use lib.ListN.{length, getD, drop}
+use mir.Syntax.{w32}
+use mir.Val.{SFits}
+use Rattle.integers.specs.Lists.{_‼_}
+use Rattle.desk_file.specs.declared.Reading.{Reading}
+use Rattle.desk_file.specs.declared.Reading.the-variants.{Series}
+use Rattle.desk_file.specs.declared.Writing.{Writing}
+use Rattle.desk_file.specs.declared.Writing.the-variants.{Length}
+use Rattle.desk_file.specs.File.{SeriesWithWeights}
+
+-- a byte string: every element is below 256
+pub record AreBytes (file : List ℕ) : Type 0 where
+  pub each : (i : ℕ) → i < length file → getD file i 0 < 256
+
+-- what the fields of a file can hold: a count of 2 bytes, figures of 32 bits, weights of 2 bytes, and as many weights as figures
+pub record Storable (s : SeriesWithWeights) : Type 0 where
+  pub count : length (s .figures) < 2 ^ 16
+  pub same : length (s .weights) ≡ length (s .figures)
+  pub figuresFit : (t : ℕ) → t < length (s .figures) → SFits w32 (s .figures ‼ t)
+  pub weightsFit : (t : ℕ) → t < length (s .weights) → getD (s .weights) t 0 < 2 ^ 16
+
+-- reading gave this series with weights: its length and start month, its figures and weights in the first places of the slices
+pub record ReadAgain (s : SeriesWithWeights) (figures₀ : List ℤ) (weights₀ : List ℕ) (r : Reading) (figures : List ℤ) (weights : List ℕ) : Type 0 where
+  pub answer : r ≡ Series (length (s .figures)) (s .start)
+  pub figuresLeft : figures ≡ s .figures ++ drop (length (s .figures)) figures₀
+  pub weightsLeft : weights ≡ s .weights ++ drop (length (s .figures)) weights₀
+
+-- writing gave this file: its length, and its bytes in the first places of the output
+pub record WrittenAgain (file out₀ : List ℕ) (r : Writing) (out : List ℕ) : Type 0 where
+  pub answer : r ≡ Length (length file)
+  pub outLeft : out ≡ file ++ drop (length file) out₀
