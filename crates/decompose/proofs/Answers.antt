@@ -9,7 +9,7 @@ use lib.Dec.{eqb, leb}
 use lib.ListN.{length}
 use lib.IntN.{ℤ}
 use Rattle.refusals.specs.Limits.{unit}
-use Rattle.refusals.specs.Sheet.{Row, numbered, row}
+use Rattle.refusals.specs.Sheet.{Answer, success, refusal}
 use Rattle.refusals.specs.declared.Refusal.{Refusal}
 use Rattle.filters.specs.Filter.{filter, minus}
 use Rattle.filters.specs.Tables.{tableHenderson}
@@ -21,7 +21,7 @@ use Rattle.extremes.specs.Weighing.{emptied}
 use Rattle.extremes.proofs.Laws.{never-emptied}
 use Rattle.decompose.specs.Tables.{B1, B13, C13, D1, D10, D11, D12, D13, B17, C17}
 use Rattle.decompose.specs.Exact.{NearAt}
-use Rattle.decompose.specs.Promise.{Slices, scratchFor, lengthsOf, fitting, groupEmptied, reply, checked, answer, zeroed, after, Promise}
+use Rattle.decompose.specs.Promise.{Slices, scratchFor, lengthsOf, fitting, groupEmptied, checked, answer, zeroed, after, Promise}
 use Rattle.decompose.specs.Asks.{Workable, Finished, Passes, Stops}
 use Rattle.decompose.specs.declared.Lengths.{Lengths}
 use Rattle.decompose.specs.declared.Decomposed.{Decomposed}
@@ -64,16 +64,12 @@ fits n l e =
     }
 
 -- ---- a refusal by rows 1 to 5
-no-tables : (q : Refusal) → eqb (row q .number) 0 ≡ false → row q ≡ numbered 0 0 → ⊥
-no-tables q e f = let z : eqb (row q .number) 0 ≡ true = ap (λ (r : Row). eqb (r .number) 0) f in let y : _≡_ {A = ℕ} 0 1 = cc in omega arith
+no-tables : {k p : ℕ} → _≡_ {A = Answer Unit} (refusal k p) (success tt) → ⊥
+no-tables e = let z : _≡_ {A = ℕ} 0 1 = cc in omega arith
 
 pub refused : {start : ℕ} {f : List ℤ} {lent : Slices} {q : Refusal} → Stops q start f (lengthsOf lent) → Promise start f lent (Refused q) lent
 unfolding answer after
-refused {start} {f} {lent} {q} h = record {
-  answered = sym (h .row-is _);
-  slices = rw (h .row-is, h .not-success, h .not-six);
-  near = λ e. absurd (no-tables q (h .not-success) e);
-}
+refused {start} {f} {lent} {q} h = record { answered = sym (h .row-is _); slices = rw (h .row-is, h .not-six); near = λ e. absurd (no-tables e) }
 
 -- ---- no group is emptied
 not-emptied : {start : ℕ} {f : List ℤ} → Workable start f → groupEmptied start f ≡ false
@@ -100,7 +96,7 @@ made-is s = refl
 same : (s t : Slices) → s .d10 ≡ t .d10 → s .d11 ≡ t .d11 → s .d12 ≡ t .d12 → s .d13 ≡ t .d13 → s .b17 ≡ t .b17 → s .c17 ≡ t .c17 → s .scratch ≡ t .scratch → s ≡ t
 same s t a b c d e f g = sym (made-is s) ∙ rw (a, b, c, d, e, f, g) (made-is t)
 
-answer-is : {start : ℕ} {f : List ℤ} (lent : Slices) → Passes start f (lengthsOf lent) → answer start f lent ≡ numbered 0 0
+answer-is : {start : ℕ} {f : List ℤ} (lent : Slices) → Passes start f (lengthsOf lent) → answer start f lent ≡ success tt
 unfolding answer
 answer-is lent h = h .next-is _ ∙ rw (not-emptied (h .workable))
 

@@ -36,27 +36,27 @@ all-inside f e = record { at = λ t. go t (decLe (t + 1) (length f)) }
 module _ (start : ℕ) (f : List ℤ) (l : Lengths) where
   pub too-short : length f < leastMonths → Stops TooShort start f l
   unfolding checked
-  too-short a = record { row-is = λ next. rw (lt-ltb _ _ a); not-success = refl; not-six = refl }
+  too-short a = record { row-is = λ next. rw (lt-ltb _ _ a); not-six = refl }
 
   module _ (a : leastMonths ≤ length f) where
     pub too-long : mostMonths < length f → Stops TooLong start f l
     unfolding checked
-    too-long b = record { row-is = λ next. rw (le-ltb _ _ a, lt-ltb _ _ b); not-success = refl; not-six = refl }
+    too-long b = record { row-is = λ next. rw (le-ltb _ _ a, lt-ltb _ _ b); not-six = refl }
 
     module _ (b : length f ≤ mostMonths) where
       pub bad-start : startInside start ≡ false → Stops BadStart start f l
       unfolding checked
-      bad-start c = record { row-is = λ next. rw (le-ltb _ _ a, le-ltb _ _ b, c); not-success = refl; not-six = refl }
+      bad-start c = record { row-is = λ next. rw (le-ltb _ _ a, le-ltb _ _ b, c); not-six = refl }
 
       module _ (c : startInside start ≡ true) where
         pub wrong-length : fitting (length f) l ≡ false → Stops WrongLength start f l
         unfolding checked
-        wrong-length d = record { row-is = λ next. rw (le-ltb _ _ a, le-ltb _ _ b, c, d); not-success = refl; not-six = refl }
+        wrong-length d = record { row-is = λ next. rw (le-ltb _ _ a, le-ltb _ _ b, c, d); not-six = refl }
 
         module _ (d : fitting (length f) l ≡ true) where
           pub outside : (t : ℕ) → firstOutside f ≡ At t → Stops (FigureOutside t) start f l
           unfolding checked refusedAt
-          outside t e = record { row-is = λ next. rw (le-ltb _ _ a, le-ltb _ _ b, c, d, e); not-success = refl; not-six = refl }
+          outside t e = record { row-is = λ next. rw (le-ltb _ _ a, le-ltb _ _ b, c, d, e); not-six = refl }
 
           pub fine : firstOutside f ≡ Nowhere → Passes start f l
           unfolding checked refusedAt

@@ -8,7 +8,7 @@ use lib.ListN.{length, getD}
 use lib.IntN.{ℤ}
 use Rattle.integers.specs.Lists.{AllWithin}
 use Rattle.refusals.specs.Limits.{unit, leastMonths, mostMonths, year, largestFigure, fullWeight}
-use Rattle.refusals.specs.Sheet.{Row, row}
+use Rattle.refusals.specs.Sheet.{row, Answer, refusalOf}
 use Rattle.refusals.specs.declared.Refusal.{Refusal}
 use Rattle.filters.specs.Asks.{largest}
 use Rattle.filters.specs.Filter.{filter, minus}
@@ -105,11 +105,10 @@ pub record Finished (b1 x d10 d11 d12 d13 : List ℤ) : Type 0 where
 pub record Passes (start : ℕ) (f : List ℤ) (lent : Lengths) : Type 0 where
   pub workable : Workable start f
   pub fits : fitting (length f) lent ≡ true
-  pub next-is : (next : Row) → checked start f lent next ≡ next
+  pub next-is : (next : Answer Unit) → checked start f lent next ≡ next
 
 pub record Stops (q : Refusal) (start : ℕ) (f : List ℤ) (lent : Lengths) : Type 0 where
-  pub row-is : (next : Row) → checked start f lent next ≡ row q
-  pub not-success : eqb (row q .number) 0 ≡ false
+  pub row-is : (next : Answer Unit) → checked start f lent next ≡ refusalOf q
   pub not-six : eqb (row q .number) 6 ≡ false
 
 abbrev pub Checked : Check → ℕ → List ℤ → Lengths → Type 0

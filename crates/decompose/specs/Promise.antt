@@ -10,7 +10,7 @@ use Rattle.integers.specs.Lists.{tab}
 use Rattle.refusals.specs.Limits.{leastMonths, mostMonths}
 use Rattle.refusals.specs.Inside.{startInside}
 use Rattle.refusals.specs.First.{firstOutside, refusedAt}
-use Rattle.refusals.specs.Sheet.{Row, numbered, row}
+use Rattle.refusals.specs.Sheet.{Answer, success, refusal, refusalOf}
 use Rattle.extremes.specs.Spreads.{sizesOf}
 use Rattle.extremes.specs.Weighing.{emptied}
 use Rattle.decompose.specs.declared.Lengths.{Lengths}
@@ -55,25 +55,25 @@ fitting n l =
 unfoldable pub groupEmptied : ℕ → List ℤ → Bool
 groupEmptied start figures = emptied start (sizesOf (B13 start figures)) || emptied start (sizesOf (C13 start figures))
 
--- the answer as the sheet has it: a refusal's number and place; tables have number 0
-abbrev pub reply : Decomposed → Row
-reply Tables = numbered 0 0
-reply (Refused r) = row r
+-- what an answer says: tables, or a refusal's number and place on the sheet
+abbrev pub says : Decomposed → Answer Unit
+says Tables = success tt
+says (Refused r) = refusalOf r
 
 -- checks 1, 2, 3, 4, 5 in this order; n is the number of figures. `next` is the answer where none applies
-unfoldable pub checked : ℕ → List ℤ → Lengths → Row → Row
+unfoldable pub checked : ℕ → List ℤ → Lengths → Answer Unit → Answer Unit
 checked start figures lent next =
     let n = length figures in
-    cond (ltb n leastMonths) (numbered 1 0)
-    (cond (ltb mostMonths n) (numbered 2 0)
-    (cond (not (startInside start)) (numbered 3 0)
-    (cond (not (fitting n lent)) (numbered 4 0)
-    (refusedAt (firstOutside figures) (numbered 5)
+    cond (ltb n leastMonths) (refusal 1 0)
+    (cond (ltb mostMonths n) (refusal 2 0)
+    (cond (not (startInside start)) (refusal 3 0)
+    (cond (not (fitting n lent)) (refusal 4 0)
+    (refusedAt (firstOutside figures) (refusal 5)
     next))))
 
 -- decomposing checks 1, 2, 3, 4, 5, 6; the first that applies is the answer
-unfoldable pub answer : ℕ → List ℤ → Slices → Row
-answer start figures lent = checked start figures (lengthsOf lent) (cond (groupEmptied start figures) (numbered 6 0) (numbered 0 0))
+unfoldable pub answer : ℕ → List ℤ → Slices → Answer Unit
+answer start figures lent = checked start figures (lengthsOf lent) (cond (groupEmptied start figures) (refusal 6 0) (success tt))
 
 -- the first 8 n entries zero, the rest untouched
 unfoldable pub zeroed : ℕ → List ℤ → List ℤ
@@ -81,10 +81,9 @@ zeroed n scratch = tab (scratchFor n) (λ _. pos 0) ++ drop (scratchFor n) scrat
 
 -- what the slices hold after an answer: the tables and a zeroed scratch; a refusal changes no lent slice, except that 6 leaves the
 -- scratch as success does
-unfoldable pub after : Row → ℕ → List ℤ → Slices → Slices
-after reply start figures s =
-    cond (eqb (reply .number) 0)
-    (record {
+unfoldable pub after : Answer Unit → ℕ → List ℤ → Slices → Slices
+after (success _) start figures s =
+    record {
       d10 = D10 start figures;
       d11 = D11 start figures;
       d12 = D12 start figures;
@@ -92,15 +91,16 @@ after reply start figures s =
       b17 = B17 start figures;
       c17 = C17 start figures;
       scratch = zeroed (length figures) (s .scratch);
-    })
-    (cond (eqb (reply .number) 6)
+    }
+after (refusal number place) start figures s =
+    cond (eqb number 6)
     (record { d10 = s .d10; d11 = s .d11; d12 = s .d12; d13 = s .d13; b17 = s .b17; c17 = s .c17; scratch = zeroed (length figures) (s .scratch) })
-    s)
+    s
 
 -- the promise of decomposing: of its answer r and of the slices as lent and as left
 pub record Promise (start : ℕ) (figures : List ℤ) (lent : Slices) (r : Decomposed) (left : Slices) : Type 0 where
-  pub answered : reply r ≡ answer start figures lent
+  pub answered : says r ≡ answer start figures lent
   pub slices : left ≡ after (answer start figures lent) start figures lent
   -- demand 3: where the answer is tables, at each t from 0 to n - 1
-  pub near : reply r ≡ numbered 0 0 → (t : ℕ) → t < length figures
+  pub near : says r ≡ success tt → (t : ℕ) → t < length figures
       → NearAt (B1 start figures) (D1 start figures) (left .d10) (left .d11) (left .d12) (left .d13) t
