@@ -10,7 +10,7 @@ use Rattle.integers.specs.Lists.{_‼_}
 use Rattle.filters.specs.Filter.{filter, minus}
 use Rattle.filters.specs.Tables.{tableHenderson}
 use Rattle.filters.specs.Distance.{Close}
-use Rattle.filters.proofs.Distances.{close-self, close-times, close-minus, grains}
+use Rattle.filters.proofs.Distances.{close-self, close-times, close-minus}
 use Rattle.filters.proofs.Lengths.{length-minus, at-minus}
 use Rattle.pass.specs.Steps.{S2}
 use Rattle.pass.specs.Exact.{overHenderson, overS2}
@@ -44,9 +44,9 @@ module _ (b1 d1 : List ℤ) where
   pub near-at : (t : ℕ) → t < length b1
       → NearAt b1 d1 (S2 d1) (minus b1 (S2 d1)) (filter tableHenderson (minus d1 (S2 d1))) (minus (minus b1 (S2 d1)) (filter tableHenderson (minus d1 (S2 d1)))) t
   near-at t h = record {
-    seasonal = grains 10 (omega arith) d10 .within t;
-    adjusted = grains 10 (omega arith) d11 .within t;
-    trend = grains 14 (omega arith) d12 .within t;
-    irregular = grains 24 (omega arith) d13 .within t;
+    seasonal = omega (arith, d10 .close t);
+    adjusted = omega (arith, d11 .close t);
+    trend = omega (arith, d12 .close t);
+    irregular = omega (arith, d13 .close t);
     adds-up = adds (S2 d1) (filter tableHenderson (minus d1 (S2 d1))) t h;
   }

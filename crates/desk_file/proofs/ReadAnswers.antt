@@ -14,10 +14,11 @@ use Rattle.refusals.specs.declared.Found.the-variants.{At, Nowhere}
 use Rattle.refusals.specs.Limits.{leastMonths, mostMonths, year}
 use Rattle.refusals.specs.Inside.{startInside}
 use Rattle.refusals.specs.First.{firstOutside, firstAbove, refusedAt}
+use Rattle.refusals.specs.Sheet.{Answer, refusal, refusalOf}
 use Rattle.desk_file.specs.declared.Reading.{Reading}
 use Rattle.desk_file.specs.declared.Reading.the-variants.{Series, Refused}
 use Rattle.desk_file.specs.File.{headerLength, fileLength, countIn, startIn, periodIn, seriesIn, weightsStart, figuresAt, weightsAt}
-use Rattle.desk_file.specs.ReadFile.{readAnswer, ReadDone}
+use Rattle.desk_file.specs.ReadFile.{Accepted, accepted, readSays, readAnswer, ReadDone}
 use Rattle.desk_file.proofs.Arrays.{series-figures, series-weights}
 use Rattle.refusals.specs.Checks.{Check, Before, RefusalAt, TestAt, chain-at, chain-past, chain-back, at-back, _&_}
 
@@ -35,33 +36,33 @@ module _ (file : List ℕ) (nf nw : ℕ) where
       ∷ record { applies = ltb nw (countIn file); refusal = WrongLength }
       ∷ []
 
-  abbrev contents : Reading
+  abbrev contents : Answer Accepted
   contents =
-      refusedAt (firstOutside (seriesIn file .figures)) (λ t. Refused (FigureOutside t))
-      (refusedAt (firstAbove (seriesIn file .weights)) (λ t. Refused (WeightAbove t))
-      (Series (countIn file) (startIn file)))
+      refusedAt (firstOutside (seriesIn file .figures)) (refusal 5)
+      (refusedAt (firstAbove (seriesIn file .weights)) (refusal 10)
+      (accepted (countIn file) (startIn file)))
 
-  pub refused-at : (i : ℕ) (r : Refusal) → Before i checks → RefusalAt i r checks → TestAt i true checks → Refused r ≡ readAnswer file nf nw
+  pub refused-at : (i : ℕ) (r : Refusal) → Before i checks → RefusalAt i r checks → TestAt i true checks → refusalOf r ≡ readAnswer file nf nw
   unfolding readAnswer
-  refused-at i r h e t = chain-at Refused checks contents i r h e t
+  refused-at i r h e t = chain-at refusalOf checks contents i r h e t
 
   past-checks : Before 8 checks → contents ≡ readAnswer file nf nw
   unfolding readAnswer
-  past-checks h = chain-past Refused checks contents h
+  past-checks h = chain-past refusalOf checks contents h
 
   module _ (h : Before 8 checks) where
-    pub figure-refused : (t : ℕ) → firstOutside (seriesIn file .figures) ≡ At t → Refused (FigureOutside t) ≡ readAnswer file nf nw
+    pub figure-refused : (t : ℕ) → firstOutside (seriesIn file .figures) ≡ At t → refusal 5 t ≡ readAnswer file nf nw
     unfolding refusedAt
     figure-refused t f = rw f at (past-checks h)
 
     module _ (f : firstOutside (seriesIn file .figures) ≡ Nowhere) where
-      pub weight-refused : (t : ℕ) → firstAbove (seriesIn file .weights) ≡ At t → Refused (WeightAbove t) ≡ readAnswer file nf nw
+      pub weight-refused : (t : ℕ) → firstAbove (seriesIn file .weights) ≡ At t → refusal 10 t ≡ readAnswer file nf nw
       unfolding refusedAt
       weight-refused t w = rw (f, w) at (past-checks h)
 
-      pub accepted : firstAbove (seriesIn file .weights) ≡ Nowhere → Series (countIn file) (startIn file) ≡ readAnswer file nf nw
+      pub all-fit : firstAbove (seriesIn file .weights) ≡ Nowhere → accepted (countIn file) (startIn file) ≡ readAnswer file nf nw
       unfolding refusedAt
-      accepted w = rw (f, w) at (past-checks h)
+      all-fit w = rw (f, w) at (past-checks h)
 
 -- what an accepted file is like
 pub record Readable (file : List ℕ) (nf nw n start : ℕ) : Type 0 where
@@ -77,18 +78,19 @@ pub record Readable (file : List ℕ) (nf nw n start : ℕ) : Type 0 where
   pub figuresFit : firstOutside (seriesIn file .figures) ≡ Nowhere
   pub weightsFit : firstAbove (seriesIn file .weights) ≡ Nowhere
 
-no-refusal : (n start : ℕ) (r : Refusal) → Refused r ≡ Series n start → ⊥
+no-refusal : (n start : ℕ) (r : Refusal) → refusalOf r ≡ accepted n start → ⊥
 no-refusal n start r e = let z : _≡_ {A = ℕ} 0 1 = cc in omega arith
 
-pub readable : (file : List ℕ) (nf nw n start : ℕ) → readAnswer file nf nw ≡ Series n start → Readable file nf nw n start
+pub readable : (file : List ℕ) (nf nw n start : ℕ) → readAnswer file nf nw ≡ accepted n start → Readable file nf nw n start
 unfolding readAnswer
 readable file nf nw n start e =
-    let h = chain-back Refused (Series n start) (no-refusal n start) (checks file nf nw) (contents file nf nw) e in
+    let h = chain-back refusalOf (accepted n start) (no-refusal n start) (checks file nf nw) (contents file nf nw) e in
     let t = h .0 in
-    let f = at-back Refused (Series n start) (no-refusal n start) (firstOutside (seriesIn file .figures)) FigureOutside _ (h .1) in
-    let w = at-back Refused (Series n start) (no-refusal n start) (firstAbove (seriesIn file .weights)) WeightAbove _ (f .1) in
-    let es : startIn file ≡ start = cc in
-    let en : countIn file ≡ n = cc in
+    let f = at-back refusalOf (accepted n start) (no-refusal n start) (firstOutside (seriesIn file .figures)) FigureOutside _ (h .1) in
+    let w = at-back refusalOf (accepted n start) (no-refusal n start) (firstAbove (seriesIn file .weights)) WeightAbove _ (f .1) in
+    let same : _≡_ {A = Accepted} (record { count = countIn file; start = startIn file }) (record { count = n; start = start }) = cc in
+    let es : startIn file ≡ start = ap (λ (a : Accepted). a .start) same in
+    let en : countIn file ≡ n = ap (λ (a : Accepted). a .count) same in
     record {
       count = sym en;
       begins = sym es;
@@ -103,7 +105,7 @@ readable file nf nw n start e =
       weightsFit = w .0;
     }
 
-pub reads : {file : List ℕ} {nf nw n start : ℕ} → Readable file nf nw n start → Series n start ≡ readAnswer file nf nw
+pub reads : {file : List ℕ} {nf nw n start : ℕ} → Readable file nf nw n start → accepted n start ≡ readAnswer file nf nw
 reads {file} {nf} {nw} {n} {start} a =
     let passed : Before 8 (checks file nf nw) =
     le-ltb (length file) headerLength (omega (arith, a .size))
@@ -115,15 +117,15 @@ reads {file} {nf} {nw} {n} {start} a =
     & le-ltb nf (countIn file) (omega (arith, a .count, a .figuresRoom))
     & le-ltb nw (countIn file) (omega (arith, a .count, a .weightsRoom))
     & tt in
-    rw (a .count, a .begins) (accepted file nf nw passed (a .figuresFit) (a .weightsFit))
+    rw (a .count, a .begins) (all-fit file nf nw passed (a .figuresFit) (a .weightsFit))
 
 -- ---- the promise of reading
-pub read-refused : (file : List ℕ) (fs : List ℤ) (ws : List ℕ) (r : Reading) (x : Refusal) → r ≡ readAnswer file (length fs) (length ws) → r ≡ Refused x → ReadDone file fs ws r fs ws
+pub read-refused : (file : List ℕ) (fs : List ℤ) (ws : List ℕ) (r : Reading) (x : Refusal) → readSays r ≡ readAnswer file (length fs) (length ws) → r ≡ Refused x → ReadDone file fs ws r fs ws
 read-refused file fs ws r x e k =
-    let a : readAnswer file (length fs) (length ws) ≡ Refused x = sym e ∙ k in
+    let a : readAnswer file (length fs) (length ws) ≡ refusalOf x = sym e ∙ ap readSays k in
     record { answer = e; figuresLeft = rw a refl; weightsLeft = rw a refl }
 
-pub read-done : (file : List ℕ) (fs : List ℤ) (ws : List ℕ) (n start : ℕ) → readAnswer file (length fs) (length ws) ≡ Series n start
+pub read-done : (file : List ℕ) (fs : List ℤ) (ws : List ℕ) (n start : ℕ) → readAnswer file (length fs) (length ws) ≡ accepted n start
     → ReadDone file fs ws (Series n start) (figuresAt file headerLength n ++ drop n fs) (weightsAt file (weightsStart n) n ++ drop n ws)
 read-done file fs ws n start a =
     let c : countIn file ≡ n = sym (readable file (length fs) (length ws) n start a .count) in

@@ -13,13 +13,12 @@ use Rattle.refusals.specs.Limits.{largestFigure}
 use Rattle.refusals.specs.First.{firstOutside, firstAbove}
 use Rattle.refusals.specs.FirstLaws.{all-passed}
 use Rattle.refusals.specs.InsideLaws.{figure-inside, weight-inside}
+use Rattle.refusals.specs.Sheet.{success}
 use Rattle.desk_file.specs.declared.Reading.{Reading}
-use Rattle.desk_file.specs.declared.Reading.the-variants.{Series}
 use Rattle.desk_file.specs.declared.Writing.{Writing}
-use Rattle.desk_file.specs.declared.Writing.the-variants.{Length}
 use Rattle.desk_file.specs.File.{SeriesWithWeights, series, fileBytes, seriesIn}
-use Rattle.desk_file.specs.ReadFile.{ReadDone}
-use Rattle.desk_file.specs.WriteFile.{WriteDone}
+use Rattle.desk_file.specs.ReadFile.{accepted, readSays, readAnswer, ReadDone}
+use Rattle.desk_file.specs.WriteFile.{writeSays, writeAnswer, WriteDone}
 use Rattle.desk_file.specs.RoundTrips.{AreBytes, Storable, ReadAgain, WrittenAgain}
 use Rattle.desk_file.proofs.Arrays.{length-file, series-months, series-start, series-whole}
 use Rattle.desk_file.proofs.ReadAnswers.{Readable, readable, reads}
@@ -45,16 +44,18 @@ storable {s} w = record {
 }
 
 -- what `write` writes, `read` reads again unchanged
-pub read-again : (s : SeriesWithWeights) (out₀ out : List ℕ) (k : ℕ) (figures₀ figures : List ℤ) (weights₀ weights : List ℕ) (r : Reading)
-    → WriteDone s out₀ (Length k) out
+pub read-again : (s : SeriesWithWeights) (out₀ out : List ℕ) (q : Writing) (k : ℕ) (figures₀ figures : List ℤ) (weights₀ weights : List ℕ) (r : Reading)
+    → WriteDone s out₀ q out
+    → writeSays q ≡ success k
     → length (s .figures) ≤ length figures₀
     → length (s .figures) ≤ length weights₀
     → ReadDone (take k out) figures₀ weights₀ r figures weights
     → ReadAgain s figures₀ weights₀ r figures weights
-read-again s out₀ out k figures₀ figures weights₀ weights r d hf hw e =
-    let w = writable s (length out₀) k (sym (d .answer)) in
+read-again s out₀ out q k figures₀ figures weights₀ weights r d ha hf hw e =
+    let written : writeAnswer s (length out₀) ≡ success k = sym (d .answer) ∙ ha in
+    let w = writable s (length out₀) k written in
     let a = storable w in
-    let same : out ≡ fileBytes s ++ drop k out₀ = rw (sym (d .answer)) at (d .outLeft) in
+    let same : out ≡ fileBytes s ++ drop k out₀ = rw written at (d .outLeft) in
     let file : take k out ≡ fileBytes s = ap (take k) same ∙ take-at (fileBytes s) (drop k out₀) k (length-file s (w .same) ∙ sym (w .long)) in
     let e′ = subst (λ (f : List ℕ). ReadDone f figures₀ weights₀ r figures weights) file e in
     let figuresFit : firstOutside (seriesIn (fileBytes s) .figures) ≡ Nowhere = rw (file-back s a) (w .figuresFit) in
@@ -80,20 +81,22 @@ read-again s out₀ out k figures₀ figures weights₀ weights r d hf hw e =
     }
 
 -- whatever `read` accepts, `write` writes again byte for byte
-pub write-again : (file : List ℕ) (figures₀ figures : List ℤ) (weights₀ weights : List ℕ) (n start : ℕ) (out₀ out : List ℕ) (r : Writing)
+pub write-again : (file : List ℕ) (figures₀ figures : List ℤ) (weights₀ weights : List ℕ) (q : Reading) (n start : ℕ) (out₀ out : List ℕ) (r : Writing)
     → AreBytes file
-    → ReadDone file figures₀ weights₀ (Series n start) figures weights
+    → ReadDone file figures₀ weights₀ q figures weights
+    → readSays q ≡ accepted n start
     → length file ≤ length out₀
     → WriteDone (series start (take n figures) (take n weights)) out₀ r out
     → WrittenAgain file out₀ r out
-write-again file figures₀ figures weights₀ weights n start out₀ out r b d room e =
-    let ok = readable file (length figures₀) (length weights₀) n start (sym (d .answer)) in
+write-again file figures₀ figures weights₀ weights q n start out₀ out r b d ha room e =
+    let told : readAnswer file (length figures₀) (length weights₀) ≡ accepted n start = sym (d .answer) ∙ ha in
+    let ok = readable file (length figures₀) (length weights₀) n start told in
     let f = seriesIn file .figures in
     let w = seriesIn file .weights in
     let nf : length f ≡ n = series-months file n (sym (ok .count)) .0 in
     let nw : length w ≡ n = series-months file n (sym (ok .count)) .1 in
-    let figuresLeft : figures ≡ f ++ drop n figures₀ = rw (sym (d .answer)) at (d .figuresLeft) in
-    let weightsLeft : weights ≡ w ++ drop n weights₀ = rw (sym (d .answer)) at (d .weightsLeft) in
+    let figuresLeft : figures ≡ f ++ drop n figures₀ = rw told at (d .figuresLeft) in
+    let weightsLeft : weights ≡ w ++ drop n weights₀ = rw told at (d .weightsLeft) in
     let s : series start (take n figures) (take n weights) ≡ seriesIn file =
     rw (figuresLeft, weightsLeft, take-at f (drop n figures₀) n nf, take-at w (drop n weights₀) n nw, ok .begins) (sym (series-whole file)) in
     let e′ = subst (λ (s : SeriesWithWeights). WriteDone s out₀ r out) s e in

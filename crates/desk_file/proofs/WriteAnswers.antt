@@ -14,10 +14,11 @@ use Rattle.refusals.specs.declared.Found.the-variants.{At, Nowhere}
 use Rattle.refusals.specs.Limits.{leastMonths, mostMonths, year}
 use Rattle.refusals.specs.Inside.{startInside}
 use Rattle.refusals.specs.First.{firstOutside, firstAbove, refusedAt}
+use Rattle.refusals.specs.Sheet.{Answer, success, refusal, refusalOf}
 use Rattle.desk_file.specs.declared.Writing.{Writing}
 use Rattle.desk_file.specs.declared.Writing.the-variants.{Length, Refused}
 use Rattle.desk_file.specs.File.{SeriesWithWeights, fileLength, header, headerLength, weightsStart, figuresBytes, weightsBytes}
-use Rattle.desk_file.specs.WriteFile.{writeAnswer, WriteDone}
+use Rattle.desk_file.specs.WriteFile.{writeSays, writeAnswer, WriteDone}
 use Rattle.desk_file.proofs.Arrays.{stored}
 use Rattle.refusals.specs.Checks.{Check, Before, RefusalAt, TestAt, chain-at, chain-past, chain-back, at-back, _&_}
 
@@ -32,33 +33,33 @@ module _ (s : SeriesWithWeights) (room : ℕ) where
       ∷ record { applies = ltb room (fileLength (length (s .figures))); refusal = WrongLength }
       ∷ []
 
-  abbrev contents : Writing
+  abbrev contents : Answer ℕ
   contents =
-      refusedAt (firstOutside (s .figures)) (λ t. Refused (FigureOutside t))
-      (refusedAt (firstAbove (s .weights)) (λ t. Refused (WeightAbove t))
-      (Length (fileLength (length (s .figures)))))
+      refusedAt (firstOutside (s .figures)) (refusal 5)
+      (refusedAt (firstAbove (s .weights)) (refusal 10)
+      (success (fileLength (length (s .figures)))))
 
-  pub refused-at : (i : ℕ) (r : Refusal) → Before i checks → RefusalAt i r checks → TestAt i true checks → Refused r ≡ writeAnswer s room
+  pub refused-at : (i : ℕ) (r : Refusal) → Before i checks → RefusalAt i r checks → TestAt i true checks → refusalOf r ≡ writeAnswer s room
   unfolding writeAnswer
-  refused-at i r h e t = chain-at Refused checks contents i r h e t
+  refused-at i r h e t = chain-at refusalOf checks contents i r h e t
 
   past-checks : Before 5 checks → contents ≡ writeAnswer s room
   unfolding writeAnswer
-  past-checks h = chain-past Refused checks contents h
+  past-checks h = chain-past refusalOf checks contents h
 
   module _ (h : Before 5 checks) where
-    pub figure-refused : (t : ℕ) → firstOutside (s .figures) ≡ At t → Refused (FigureOutside t) ≡ writeAnswer s room
+    pub figure-refused : (t : ℕ) → firstOutside (s .figures) ≡ At t → refusal 5 t ≡ writeAnswer s room
     unfolding refusedAt
     figure-refused t f = rw f at (past-checks h)
 
     module _ (f : firstOutside (s .figures) ≡ Nowhere) where
-      pub weight-refused : (t : ℕ) → firstAbove (s .weights) ≡ At t → Refused (WeightAbove t) ≡ writeAnswer s room
+      pub weight-refused : (t : ℕ) → firstAbove (s .weights) ≡ At t → refusal 10 t ≡ writeAnswer s room
       unfolding refusedAt
       weight-refused t w = rw (f, w) at (past-checks h)
 
-      pub accepted : firstAbove (s .weights) ≡ Nowhere → Length (fileLength (length (s .figures))) ≡ writeAnswer s room
+      pub all-fit : firstAbove (s .weights) ≡ Nowhere → success (fileLength (length (s .figures))) ≡ writeAnswer s room
       unfolding refusedAt
-      accepted w = rw (f, w) at (past-checks h)
+      all-fit w = rw (f, w) at (past-checks h)
 
 -- what an accepted series with weights is like
 pub record Writable (s : SeriesWithWeights) (room k : ℕ) : Type 0 where
@@ -71,16 +72,16 @@ pub record Writable (s : SeriesWithWeights) (room k : ℕ) : Type 0 where
   pub figuresFit : firstOutside (s .figures) ≡ Nowhere
   pub weightsFit : firstAbove (s .weights) ≡ Nowhere
 
-no-refusal : (k : ℕ) (r : Refusal) → Refused r ≡ Length k → ⊥
+no-refusal : (k : ℕ) (r : Refusal) → refusalOf r ≡ success k → ⊥
 no-refusal k r e = let z : _≡_ {A = ℕ} 0 1 = cc in omega arith
 
-pub writable : (s : SeriesWithWeights) (room k : ℕ) → writeAnswer s room ≡ Length k → Writable s room k
+pub writable : (s : SeriesWithWeights) (room k : ℕ) → writeAnswer s room ≡ success k → Writable s room k
 unfolding writeAnswer
 writable s room k e =
-    let h = chain-back Refused (Length k) (no-refusal k) (checks s room) (contents s room) e in
+    let h = chain-back refusalOf (success k) (no-refusal k) (checks s room) (contents s room) e in
     let t = h .0 in
-    let f = at-back Refused (Length k) (no-refusal k) (firstOutside (s .figures)) FigureOutside _ (h .1) in
-    let w = at-back Refused (Length k) (no-refusal k) (firstAbove (s .weights)) WeightAbove _ (f .1) in
+    let f = at-back refusalOf (success k) (no-refusal k) (firstOutside (s .figures)) FigureOutside _ (h .1) in
+    let w = at-back refusalOf (success k) (no-refusal k) (firstAbove (s .weights)) WeightAbove _ (f .1) in
     record {
       long = cc;
       least = ltb-false (length (s .figures)) leastMonths (t .0);
@@ -92,7 +93,7 @@ writable s room k e =
       weightsFit = w .0;
     }
 
-pub writes : {s : SeriesWithWeights} {room k : ℕ} → Writable s room k → Length k ≡ writeAnswer s room
+pub writes : {s : SeriesWithWeights} {room k : ℕ} → Writable s room k → success k ≡ writeAnswer s room
 writes {s} {room} {k} a =
     let passed : Before 5 (checks s room) =
     le-ltb (length (s .figures)) leastMonths (a .least)
@@ -101,15 +102,15 @@ writes {s} {room} {k} a =
     & ap not (eq-eqb (length (s .weights)) (length (s .figures)) (a .same))
     & le-ltb room (fileLength (length (s .figures))) (a .enough)
     & tt in
-    rw (a .long) (accepted s room passed (a .figuresFit) (a .weightsFit))
+    rw (a .long) (all-fit s room passed (a .figuresFit) (a .weightsFit))
 
 -- ---- the promise of writing
-pub write-refused : (s : SeriesWithWeights) (out : List ℕ) (r : Writing) (x : Refusal) → r ≡ writeAnswer s (length out) → r ≡ Refused x → WriteDone s out r out
+pub write-refused : (s : SeriesWithWeights) (out : List ℕ) (r : Writing) (x : Refusal) → writeSays r ≡ writeAnswer s (length out) → r ≡ Refused x → WriteDone s out r out
 write-refused s out r x e k =
-    let a : writeAnswer s (length out) ≡ Refused x = sym e ∙ k in
+    let a : writeAnswer s (length out) ≡ refusalOf x = sym e ∙ ap writeSays k in
     record { answer = e; outLeft = rw a refl }
 
-pub write-done : (s : SeriesWithWeights) (out : List ℕ) (k : ℕ) → writeAnswer s (length out) ≡ Length k
+pub write-done : (s : SeriesWithWeights) (out : List ℕ) (k : ℕ) → writeAnswer s (length out) ≡ success k
     → WriteDone s out (Length k)
     (sets (sets (sets out 0 (header (length (s .figures)) (s .start) year)) headerLength (figuresBytes (s .figures))) (weightsStart (length (s .figures))) (weightsBytes (s .weights)))
 write-done s out k a =

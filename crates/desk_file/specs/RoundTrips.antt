@@ -7,11 +7,12 @@ use lib.ListN.{length, getD, drop}
 use mir.Syntax.{w32}
 use mir.Val.{SFits}
 use Rattle.integers.specs.Lists.{_‼_}
+use Rattle.refusals.specs.Sheet.{success}
 use Rattle.desk_file.specs.declared.Reading.{Reading}
-use Rattle.desk_file.specs.declared.Reading.the-variants.{Series}
 use Rattle.desk_file.specs.declared.Writing.{Writing}
-use Rattle.desk_file.specs.declared.Writing.the-variants.{Length}
 use Rattle.desk_file.specs.File.{SeriesWithWeights}
+use Rattle.desk_file.specs.ReadFile.{accepted, readSays}
+use Rattle.desk_file.specs.WriteFile.{writeSays}
 
 -- a byte string: every element is below 256
 pub record AreBytes (file : List ℕ) : Type 0 where
@@ -26,11 +27,11 @@ pub record Storable (s : SeriesWithWeights) : Type 0 where
 
 -- reading gave this series with weights: its length and start month, its figures and weights in the first places of the slices
 pub record ReadAgain (s : SeriesWithWeights) (figures₀ : List ℤ) (weights₀ : List ℕ) (r : Reading) (figures : List ℤ) (weights : List ℕ) : Type 0 where
-  pub answer : r ≡ Series (length (s .figures)) (s .start)
+  pub answer : readSays r ≡ accepted (length (s .figures)) (s .start)
   pub figuresLeft : figures ≡ s .figures ++ drop (length (s .figures)) figures₀
   pub weightsLeft : weights ≡ s .weights ++ drop (length (s .figures)) weights₀
 
 -- writing gave this file: its length, and its bytes in the first places of the output
 pub record WrittenAgain (file out₀ : List ℕ) (r : Writing) (out : List ℕ) : Type 0 where
-  pub answer : r ≡ Length (length file)
+  pub answer : writeSays r ≡ success (length file)
   pub outLeft : out ≡ file ++ drop (length file) out₀

@@ -10,8 +10,8 @@ ghost use Rattle.refusals.specs.First.{firstAbove, firstOutside};
 ghost use Rattle.refusals.specs.Limits.{mostMonths, year};
 ghost use Rattle.desk_file.specs.Bytes.{bytesOf, Number, signed, word};
 ghost use Rattle.desk_file.specs.File.{figureAt, figuresAt, figuresBytes, header, headerLength, series, weightAt, weightsAt, weightsBytes};
-ghost use Rattle.desk_file.specs.ReadFile.{readAnswer, ReadDone};
-ghost use Rattle.desk_file.specs.WriteFile.{writeAnswer, WriteDone};
+ghost use Rattle.desk_file.specs.ReadFile.{readAnswer, ReadDone, readSays};
+ghost use Rattle.desk_file.specs.WriteFile.{writeAnswer, WriteDone, writeSays};
 
 // Bytes of the sizes, of the count among them, of a figure, of a weight, and of a month in both arrays.
 const HEADER: usize = 4;
@@ -165,7 +165,7 @@ fn get_weights(file: &[u8], from: usize, n: usize, weights: &mut [u16])
 
 // What reading answers, by the file and the lengths of the two slices.
 fn read_answer(file: &[u8], figures: &[i32], weights: &[u16]) -> Reading
-    ensures { λ r. ⌜ r ≡ readAnswer (now (file .entry)) (length (now (figures .entry))) (length (now (weights .entry))) ⌝ }
+    ensures { λ r. ⌜ readSays r ≡ readAnswer (now (file .entry)) (length (now (figures .entry))) (length (now (weights .entry))) ⌝ }
 {
     if file.len() < HEADER {
         return Reading::Refused(Refusal::NoHeader);
@@ -253,7 +253,7 @@ fn put_weights(out: &mut [u8], from: usize, weights: &[u16])
 
 // What writing answers, by the series and the length of the output.
 fn write_answer(figures: &[i32], start: u8, weights: &[u16], out: &[u8]) -> Writing
-    ensures { λ r. ⌜ r ≡ writeAnswer (series start (now (figures .entry)) (now (weights .entry))) (length (now (out .entry))) ⌝ }
+    ensures { λ r. ⌜ writeSays r ≡ writeAnswer (series start (now (figures .entry)) (now (weights .entry))) (length (now (out .entry))) ⌝ }
 {
     let n = figures.len();
     if n < refusals::LEAST_MONTHS {

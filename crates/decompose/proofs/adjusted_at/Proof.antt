@@ -1,31 +1,25 @@
+-- `decompose::adjusted_at` meets its contract: both numbers are small enough for their difference to fit.
+-- Assumes nothing.
 use native.Mathlib.Omega.{arith}
 use Rattle.integers.specs.Words.{i-, i-fits, i-kept, i-in, i-call}
 use Rattle.decompose.proofs.Sizes.{grains-within}
 use borrow.Author.Needs.{needs}
 use Rattle.decompose.proofs.adjusted_at.Statement.{statement}
 use Rattle.decompose.proofs.adjusted_at.Tie as tie
-use Rattle.decompose.proofs.adjusted_at.Reads as reads
-use Rattle.decompose.proofs.adjusted_at.Lts as lts
-use Rattle.decompose.proofs.grains_at.Reads as grains-at-reads
 
--- src/lib.rt:43:5
 grains-at-requires : tie.Need-grains-at-requires
 grains-at-requires c κs = search needs
 
--- src/lib.rt:43:29
 mul-result : tie.Need-mul-result
 mul-result c = search needs
 
--- src/lib.rt:43:29
 shared-slice-copy-out-result : tie.Need-shared-slice-copy-out-result
 shared-slice-copy-out-result c = search needs
 
--- src/lib.rt:43:5
 sub-result : tie.Need-sub-result
 sub-result c = let g = c .before in let s = g .before in
     i-fits (i- (i-call (g .grains-at .ok) (g .grains-at .ensures) (grains-within (s .pre .0 .figures) (s .args .t))) (i-in (s .pre .0 .small .at (s .args .t)) tt)) tt
 
--- src/lib.rt:39:1
 returns : tie.Need-returns
 returns c = let g = c .before in let s = g .before in
     i-kept (i- (i-call (g .grains-at .ok) (g .grains-at .ensures) (grains-within (s .pre .0 .figures) (s .args .t))) (i-in (s .pre .0 .small .at (s .args .t)) tt)) tt .eq

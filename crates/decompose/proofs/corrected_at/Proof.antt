@@ -1,3 +1,5 @@
+-- `decompose::corrected_at` meets its contract: the figure in grains and its correction are small enough for their difference to fit.
+-- Assumes nothing.
 use mathlib.Core.Path.{ap, _∙_}
 use lib.ListN.{getD}
 use lib.IntN.{ℤ, pos, _-ℤ_, _*ℤ_}
@@ -10,41 +12,29 @@ use Rattle.decompose.proofs.Sizes.{grains-within}
 use borrow.Author.Needs.{needs}
 use Rattle.decompose.proofs.corrected_at.Statement.{statement}
 use Rattle.decompose.proofs.corrected_at.Tie as tie
-use Rattle.decompose.proofs.corrected_at.Reads as reads
-use Rattle.decompose.proofs.corrected_at.Lts as lts
-use Rattle.decompose.proofs.grains_at.Reads as grains-at-reads
-use Rattle.extremes.proofs.correction.Reads as correction-reads
 
--- src/lib.rt:61:5
 grains-at-requires : tie.Need-grains-at-requires
 grains-at-requires c κs = search needs
 
--- src/lib.rt:61:50
 mul-correction : tie.Need-mul-correction
 mul-correction c = search needs
 
--- src/lib.rt:61:50
 shared-slice-copy-out-correction : tie.Need-shared-slice-copy-out-correction
 shared-slice-copy-out-correction c = search needs
 
--- src/lib.rt:61:64
 mul-correction-2 : tie.Need-mul-correction-2
 mul-correction-2 c = search needs
 
--- src/lib.rt:61:64
 shared-slice-read-correction : tie.Need-shared-slice-read-correction
 shared-slice-read-correction c = search needs
 
--- src/lib.rt:61:29
 correction-requires : tie.Need-correction-requires
 correction-requires c κs = let s = c .before .before .before .before in (i-within (i-in (s .pre .0 .small .at (s .args .t)) tt), s .pre .0 .light (s .args .t) (s .pre .1))
 
--- src/lib.rt:61:5
 sub-result : tie.Need-sub-result
 sub-result c = let g = c .before .before .before in let s = g .before .before in
     i-fits (i- (i-call (g .grains-at .ok) (g .grains-at .ensures) (grains-within (s .pre .0 .figures) (s .args .t))) (i-call (c .correction .ok) (c .correction .ensures) (correction-within _ _ (i-within (i-in (s .pre .0 .small .at (s .args .t)) tt))))) tt
 
--- src/lib.rt:57:1
 returns : tie.Need-returns
 returns c = let g = c .before .before .before in let s = g .before .before in
     i-kept (i- (i-call (g .grains-at .ok) (g .grains-at .ensures) (grains-within (s .pre .0 .figures) (s .args .t))) (i-call (c .correction .ok) (c .correction .ensures) (correction-within _ _ (i-within (i-in (s .pre .0 .small .at (s .args .t)) tt))))) tt .eq

@@ -1,90 +1,69 @@
+-- `decompose::corrected_series` meets its contract: B1, then C1, then D1; no group is ever emptied.
+-- Assumes nothing.
 use native.Mathlib.Omega.{arith}
 use Rattle.decompose.proofs.Passes.{revisable-b, to-c1, revisable-c, never-empty, corrected}
 use borrow.Author.Needs.{needs}
 use Rattle.decompose.proofs.corrected_series.Statement.{statement}
 use Rattle.decompose.proofs.corrected_series.Tie as tie
-use Rattle.decompose.proofs.corrected_series.Reads as reads
-use Rattle.decompose.proofs.corrected_series.Lts as lts
-use Rattle.decompose.proofs.in_grains.Reads as in-grains-reads
-use Rattle.decompose.proofs.revise.Reads as revise-reads
 
--- src/lib.rt:114:5
 in-grains-requires : tie.Need-in-grains-requires
 in-grains-requires c κs = search needs
 
--- src/lib.rt:115:9
 revise-requires : tie.Need-revise-requires
 revise-requires c κs = let g = c .before .before .before .before .before .before .before in let s = g .before .before .before .before in (revisable-b (s .pre .0) (g .in-grains .ensures), s .pre .1, s .pre .3)
 
 enum-told : tie.Need-enum-told
 enum-told c = search needs
 
--- src/lib.rt:117:9
 enum-told-2 : tie.Need-enum-told-2
 enum-told-2 c = search needs
 
--- src/lib.rt:117:9
 same-length : tie.Need-same-length
 same-length c = search needs
 
--- src/lib.rt:117:9
 same-length-2 : tie.Need-same-length-2
 same-length-2 c = search needs
 
--- src/lib.rt:117:9
 same-length-3 : tie.Need-same-length-3
 same-length-3 c = search needs
 
--- src/lib.rt:117:9
 same-length-4 : tie.Need-same-length-4
 same-length-4 c = search needs
 
--- src/lib.rt:117:9
 same-length-5 : tie.Need-same-length-5
 same-length-5 c = search needs
 
--- src/lib.rt:117:9
 same-length-6 : tie.Need-same-length-6
 same-length-6 c = search needs
 
--- src/lib.rt:117:9
 returns : tie.Need-returns
 returns c = let r = c .before .before .before .before .before .before .before .before .before in let s = r .before .before .before .before .before .before .before .before .before .before .before .before in absurd (never-empty (s .pre .0) (r .revise .ensures) (c .enum-told2 .given .1))
 
--- src/lib.rt:119:5
 revise-requires-2 : tie.Need-revise-requires-2
 revise-requires-2 c κs = let r = c .before .before .before .before .before .before .before .before .before .before .before .before .before .before .before in let g = r .before .before .before .before .before .before .before .before in let s = g .before .before .before .before in
     (revisable-c (s .pre .0) (to-c1 (s .pre .0) (g .in-grains .ensures) (r .revise .ensures)), record { a-long = omega (arith, s .pre .1, r .revise); b-long = omega (arith, s .pre .1, r .revise); t-long = omega (arith, s .pre .1, r .revise); s-long = omega (arith, s .pre .1, r .revise) }, s .pre .4)
 
--- src/lib.rt:100:1
 same-length-7 : tie.Need-same-length-7
 same-length-7 c = search needs
 
--- src/lib.rt:100:1
 same-length-8 : tie.Need-same-length-8
 same-length-8 c = search needs
 
--- src/lib.rt:100:1
 same-length-9 : tie.Need-same-length-9
 same-length-9 c = search needs
 
--- src/lib.rt:100:1
 same-length-10 : tie.Need-same-length-10
 same-length-10 c = search needs
 
--- src/lib.rt:100:1
 same-length-11 : tie.Need-same-length-11
 same-length-11 c = search needs
 
--- src/lib.rt:100:1
 same-length-12 : tie.Need-same-length-12
 same-length-12 c = search needs
 
--- src/lib.rt:100:1
 same-length-13 : tie.Need-same-length-13
 same-length-13 c = search needs
 
--- src/lib.rt:100:1
 returns-2 : tie.Need-returns-2
 returns-2 c = let q = c .before .before .before .before .before .before .before in let r = q .before .before .before .before .before .before .before .before .before .before .before .before .before .before .before .before in let g = r .before .before .before .before .before .before .before .before in let s = g .before .before .before .before in
     corrected (s .pre .0) (g .in-grains .ensures) (r .revise .ensures) (q .revise2 .ensures)

@@ -1,3 +1,5 @@
+-- `decompose::decompose` meets its contract: the checks, then the passes; each return keeps the promise.
+-- Assumes nothing.
 use mathlib.Core.Path.{subst}
 use lib.ListN.{length}
 use Rattle.decompose.specs.Promise.{Slices, lengthsOf}
@@ -7,10 +9,6 @@ use Rattle.decompose.proofs.Answers.{fits, refused, tables}
 use borrow.Author.Needs.{needs}
 use Rattle.decompose.proofs.decompose.Statement.{statement}
 use Rattle.decompose.proofs.decompose.Tie as tie
-use Rattle.decompose.proofs.decompose.Reads as reads
-use Rattle.decompose.proofs.decompose.Lts as lts
-use Rattle.decompose.proofs.first_refusal.Reads as first-refusal-reads
-use Rattle.decompose.proofs.three_passes.Reads as three-passes-reads
 
 -- the lent slices, and how long they are
 abbrev lent : tie.Start → Slices
@@ -21,15 +19,12 @@ unfolding lengthsOf
 passes c = let r = c .before .before in let s = r .before .before .before in
     subst (λ (k : Check). Checked k (s .args .start) (s .args .figures .now) (lengthsOf (lent s))) (c .enum-told .given .1) (r .first-refusal .ensures)
 
--- src/lib.rt:278:9
 first-refusal-requires : tie.Need-first-refusal-requires
 first-refusal-requires c κs = search needs
 
--- src/lib.rt:279:27
 enum-known-found : tie.Need-enum-known-found
 enum-known-found c = search needs
 
--- src/lib.rt:280:9
 returns : tie.Need-returns
 unfolding lengthsOf
 returns c = let r = c .before .before .before in let s = r .before .before .before in
@@ -38,41 +33,32 @@ returns c = let r = c .before .before .before in let s = r .before .before .befo
 enum-told : tie.Need-enum-told
 enum-told c = search needs
 
--- src/lib.rt:282:5
 three-passes-requires : tie.Need-three-passes-requires
 unfolding lengthsOf
 three-passes-requires c κs = let t = c .before .before .before .before .before .before .before in let s = t .before .before .before .before .before in let f = fits (length (s .args .figures .now)) (lengthsOf (lent s)) (passes t .fits) in
     (passes t .workable, record { a-long = f .d10-long; b-long = f .d11-long; t-long = f .d12-long; s-long = f .d13-long }, f .b17-long, f .c17-long, f .scratch-long)
 
--- src/lib.rt:253:1
 same-length : tie.Need-same-length
 same-length c = search needs
 
--- src/lib.rt:253:1
 same-length-2 : tie.Need-same-length-2
 same-length-2 c = search needs
 
--- src/lib.rt:253:1
 same-length-3 : tie.Need-same-length-3
 same-length-3 c = search needs
 
--- src/lib.rt:253:1
 same-length-4 : tie.Need-same-length-4
 same-length-4 c = search needs
 
--- src/lib.rt:253:1
 same-length-5 : tie.Need-same-length-5
 same-length-5 c = search needs
 
--- src/lib.rt:253:1
 same-length-6 : tie.Need-same-length-6
 same-length-6 c = search needs
 
--- src/lib.rt:253:1
 same-length-7 : tie.Need-same-length-7
 same-length-7 c = search needs
 
--- src/lib.rt:253:1
 returns-2 : tie.Need-returns-2
 returns-2 c = let q = c .before .before .before .before .before .before .before .before .before in let t = q .before .before .before .before .before .before .before .before in let s = t .before .before .before .before .before in let e = q .three-passes .ensures in
     rw (e .0) (tables {lent = lent s} (passes t) (e .1) (e .2) (e .3) (e .4))

@@ -1,3 +1,5 @@
+-- `decompose::grains_at` meets its contract: a figure is small enough for its grains to fit.
+-- Assumes nothing.
 use Prim.Native.Nat.{_*_}
 use lib.IntN.{pos, _*ℤ_}
 use mir.Syntax.{w32, w64}
@@ -8,8 +10,6 @@ use Rattle.refusals.specs.Limits.{unit, largestFigure}
 use borrow.Author.Needs.{needs}
 use Rattle.decompose.proofs.grains_at.Statement.{statement}
 use Rattle.decompose.proofs.grains_at.Tie as tie
-use Rattle.decompose.proofs.grains_at.Reads as reads
-use Rattle.decompose.proofs.grains_at.Lts as lts
 
 figure : (s : tie.Start) → Reads (toZ w32 (ofZ w32 (s .args .figures .now ‼ s .args .t))) (s .args .figures .now ‼ s .args .t) largestFigure
 figure s = i-in32 (s .pre .0 .small .at (s .args .t)) tt
@@ -17,23 +17,18 @@ figure s = i-in32 (s .pre .0 .small .at (s .args .t)) tt
 product : (s : tie.Start) → Reads (pos unit *ℤ toZ w64 (ofZ w64 (toZ w32 (ofZ w32 (s .args .figures .now ‼ s .args .t))))) (pos unit *ℤ (s .args .figures .now ‼ s .args .t)) (unit * largestFigure)
 product s = i* (i-lit unit) (i-kept (figure s) tt)
 
--- src/lib.rt:25:23
 mul-result : tie.Need-mul-result
 mul-result c = search needs
 
--- src/lib.rt:25:23
 shared-slice-copy-out-result : tie.Need-shared-slice-copy-out-result
 shared-slice-copy-out-result c = search needs
 
--- src/lib.rt:25:23
 cast-result : tie.Need-cast-result
 cast-result c = i-fits (figure (c .before)) tt
 
--- src/lib.rt:25:5
 mul-result-2 : tie.Need-mul-result-2
 mul-result-2 c = i-fits (product (c .before)) tt
 
--- src/lib.rt:21:1
 returns : tie.Need-returns
 returns c = i-kept (product (c .before)) tt .eq
 

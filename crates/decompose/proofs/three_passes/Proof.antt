@@ -1,3 +1,5 @@
+-- `decompose::three_passes` meets its contract: the front of the scratch holds D1, and is zeroed at the end.
+-- Assumes nothing.
 use Prim.Native.Nat.{ℕ, _≤_}
 use mathlib.Core.Path.{_≡_, refl, sym, ap, _∙_}
 use mathlib.Core.List.{List, _++_}
@@ -12,11 +14,6 @@ use Rattle.decompose.proofs.Passes.{final, not-both}
 use borrow.Author.Needs.{needs}
 use Rattle.decompose.proofs.three_passes.Statement.{statement}
 use Rattle.decompose.proofs.three_passes.Tie as tie
-use Rattle.decompose.proofs.three_passes.Reads as reads
-use Rattle.decompose.proofs.three_passes.Lts as lts
-use Rattle.decompose.proofs.clear.Reads as clear-reads
-use Rattle.decompose.proofs.corrected_series.Reads as corrected-series-reads
-use Rattle.decompose.proofs.final_tables.Reads as final-tables-reads
 
 -- the front of the scratch holds D1
 module _ (q : tie.After-corrected-series) where
@@ -45,15 +42,12 @@ module _ (q : tie.After-corrected-series) where
   unfolding zeroed
   cleared = ap (λ (l : List ℤ). tab (scratchFor n) (λ _. pos 0) ++ l) (front-rest n (s .args .scratch .now) room x same (scratchFor n) (omega arith))
 
--- src/lib.rt:235:9
 slice-relend-prefix-corrected-series : tie.Need-slice-relend-prefix-corrected-series
 slice-relend-prefix-corrected-series c = search needs
 
--- src/lib.rt:235:9
 slice-aggregate-corrected-series : tie.Need-slice-aggregate-corrected-series
 slice-aggregate-corrected-series c = let s = c .before .before .before in front-long _ _ (omega (arith, s .pre .4))
 
--- src/lib.rt:232:9
 corrected-series-requires : tie.Need-corrected-series-requires
 corrected-series-requires c κs = let s = c .before .before .before .before .before .before .before .before .before in let n = length (s .args .figures .now) in
     (s .pre .0, s .pre .1, sym (front-long n (s .args .scratch .now) (omega (arith, s .pre .4))), s .pre .2, s .pre .3)
@@ -61,92 +55,70 @@ corrected-series-requires c κs = let s = c .before .before .before .before .bef
 enum-told : tie.Need-enum-told
 enum-told c = search needs
 
--- src/lib.rt:244:15
 enum-told-2 : tie.Need-enum-told-2
 enum-told-2 c = search needs
 
--- src/lib.rt:244:9
 clear-requires : tie.Need-clear-requires
 clear-requires c κs = search needs
 
--- src/lib.rt:245:9
 same-length : tie.Need-same-length
 same-length c = search needs
 
--- src/lib.rt:245:9
 same-length-2 : tie.Need-same-length-2
 same-length-2 c = search needs
 
--- src/lib.rt:245:9
 same-length-3 : tie.Need-same-length-3
 same-length-3 c = search needs
 
--- src/lib.rt:245:9
 same-length-4 : tie.Need-same-length-4
 same-length-4 c = search needs
 
--- src/lib.rt:245:9
 same-length-5 : tie.Need-same-length-5
 same-length-5 c = search needs
 
--- src/lib.rt:245:9
 same-length-6 : tie.Need-same-length-6
 same-length-6 c = search needs
 
--- src/lib.rt:245:9
 same-length-7 : tie.Need-same-length-7
 same-length-7 c = search needs
 
--- src/lib.rt:245:9
 returns : tie.Need-returns
 returns c = let q = c .before .before .before .before .before .before .before .before .before .before .before .before .before .before in absurd (not-both (q .corrected-series .ensures .answered) (c .before .before .before .enum-told2 .given .1))
 
--- src/lib.rt:247:27
 slice-reshare-prefix-final-tables : tie.Need-slice-reshare-prefix-final-tables
 slice-reshare-prefix-final-tables c = search needs
 
--- src/lib.rt:247:27
 slice-aggregate-final-tables : tie.Need-slice-aggregate-final-tables
 slice-aggregate-final-tables c = let q = c .before .before .before .before .before .before .before .before .before .before .before .before in front-long _ _ (omega (arith, kept q, room q))
 
--- src/lib.rt:247:5
 final-tables-requires : tie.Need-final-tables-requires
 final-tables-requires c κs = let q = c .before .before .before .before .before .before .before .before .before .before .before .before .before .before .before .before in let s = q .before .before .before .before .before .before .before .before .before .before in let g = q .corrected-series in
     (final (s .pre .0) (back q), record { a-long = omega (arith, s .pre .1, g); b-long = omega (arith, s .pre .1, g); t-long = omega (arith, s .pre .1, g); s-long = omega (arith, s .pre .1, g) })
 
--- src/lib.rt:248:5
 clear-requires-2 : tie.Need-clear-requires-2
 clear-requires-2 c κs = let q = c .before .before .before .before .before .before .before .before .before .before .before .before .before .before .before .before .before .before .before .before .before .before in let s = q .before .before .before .before .before .before .before .before .before .before in (s .pre .0 .figures .short, omega (arith, kept q, s .pre .4))
 
--- src/lib.rt:217:1
 same-length-8 : tie.Need-same-length-8
 same-length-8 c = search needs
 
--- src/lib.rt:217:1
 same-length-9 : tie.Need-same-length-9
 same-length-9 c = search needs
 
--- src/lib.rt:217:1
 same-length-10 : tie.Need-same-length-10
 same-length-10 c = search needs
 
--- src/lib.rt:217:1
 same-length-11 : tie.Need-same-length-11
 same-length-11 c = search needs
 
--- src/lib.rt:217:1
 same-length-12 : tie.Need-same-length-12
 same-length-12 c = search needs
 
--- src/lib.rt:217:1
 same-length-13 : tie.Need-same-length-13
 same-length-13 c = search needs
 
--- src/lib.rt:217:1
 same-length-14 : tie.Need-same-length-14
 same-length-14 c = search needs
 
--- src/lib.rt:217:1
 returns-2 : tie.Need-returns-2
 returns-2 c = let g = c .before .before .before .before .before .before .before in let q = g .before .before .before .before .before .before .before .before .before .before .before .before .before .before .before .before .before in let s = q .before .before .before .before .before .before .before .before .before .before in let e = q .corrected-series .ensures in
     (refl, rw (back q) at (g .final-tables .ensures), e .b17-is, e .c17-is, c .before .clear2 .ensures ∙ cleared q)

@@ -1,11 +1,10 @@
 -- `desk_file::read` meets its contract: the answer first, and where it is a series, both slices are filled.
 -- Assumes nothing.
-use mathlib.Core.Path.{_≡_, sym, _∙_}
+use mathlib.Core.Path.{_≡_, sym, ap, _∙_}
 use native.Mathlib.Omega.{arith}
 use borrow.Author.Needs.{needs}
 use lib.ListN.{length}
-use Rattle.desk_file.specs.declared.Reading.the-variants.{Series}
-use Rattle.desk_file.specs.ReadFile.{readAnswer}
+use Rattle.desk_file.specs.ReadFile.{accepted, readSays, readAnswer}
 use Rattle.desk_file.proofs.ReadAnswers.{Readable, readable, read-refused, read-done}
 use Rattle.desk_file.proofs.read.Statement.{statement}
 use Rattle.desk_file.proofs.read.Tie as tie
@@ -15,8 +14,8 @@ from c = c .before .before .before .before .before
 
 -- the answer, where it is a series
 series : (c : tie.After-known-told) → let s = from (c .before .before .before) .args in
-    readAnswer (s .file .now) (length (s .figures .now)) (length (s .weights .now)) ≡ Series (c .before .answer .given .0 .0) (c .before .answer .given .0 .1 .0)
-series c = sym (c .before .before .before .read-answer .ensures) ∙ c .before .answer .given .1
+    readAnswer (s .file .now) (length (s .figures .now)) (length (s .weights .now)) ≡ accepted (c .before .answer .given .0 .0) (c .before .answer .given .0 .1 .0)
+series c = sym (c .before .before .before .read-answer .ensures) ∙ ap readSays (c .before .answer .given .1)
 
 facts : (c : tie.After-known-told) → let s = from (c .before .before .before) .args in
     Readable (s .file .now) (length (s .figures .now)) (length (s .weights .now)) (c .before .answer .given .0 .0) (c .before .answer .given .0 .1 .0)

@@ -15,7 +15,7 @@ use Rattle.refusals.specs.declared.Found.the-variants.{Nowhere}
 use Rattle.desk_file.specs.File.{headerLength, fileLength, countIn, startIn, periodIn, seriesIn}
 use Rattle.desk_file.proofs.Arrays.{series-figures, series-weights}
 use Rattle.refusals.specs.Checks.{Check, Before, one-more}
-use Rattle.desk_file.proofs.ReadAnswers.{checks, refused-at, figure-refused, weight-refused, accepted}
+use Rattle.desk_file.proofs.ReadAnswers.{checks, refused-at, figure-refused, weight-refused, all-fit}
 use Rattle.desk_file.proofs.read_answer.Statement.{statement}
 use Rattle.desk_file.proofs.read_answer.Tie as tie
 
@@ -218,7 +218,7 @@ returns-11 c =
     let w = c .before .before in
     let f = w .before .before .before in
     let s = from5 (last5 f) in
-    rw (← counted5 (last5 f)) (accepted (file s) (figures s) (weights s) (before8 (f .before)) (inside (w .before)) (sym (searched2 w) ∙ c .enum-told2 .given .1))
+    rw (← counted5 (last5 f)) (all-fit (file s) (figures s) (weights s) (before8 (f .before)) (inside (w .before)) (sym (searched2 w) ∙ c .enum-told2 .given .1))
 
 pub read-answer-spec : {M : Type 1} → statement M
 read-answer-spec =

@@ -1,12 +1,12 @@
 -- `desk_file::write` meets its contract: the answer first, and where it is a length, the file is stored part by part.
 -- Assumes nothing.
-use mathlib.Core.Path.{_≡_, sym, _∙_}
+use mathlib.Core.Path.{_≡_, sym, ap, _∙_}
 use native.Mathlib.Omega.{arith}
 use borrow.Author.Needs.{needs}
 use lib.ListN.{length}
-use Rattle.desk_file.specs.declared.Writing.the-variants.{Length}
+use Rattle.refusals.specs.Sheet.{success}
 use Rattle.desk_file.specs.File.{SeriesWithWeights, series}
-use Rattle.desk_file.specs.WriteFile.{writeAnswer}
+use Rattle.desk_file.specs.WriteFile.{writeSays, writeAnswer}
 use Rattle.desk_file.proofs.WriteAnswers.{Writable, writable, write-refused, write-done}
 use Rattle.desk_file.proofs.write.Statement.{statement}
 use Rattle.desk_file.proofs.write.Tie as tie
@@ -18,8 +18,8 @@ abbrev lent : tie.Start → SeriesWithWeights
 lent s = series (s .args .start) (s .args .figures .now) (s .args .weights .now)
 
 -- the answer, where it is a length
-long : (c : tie.After-enum-told) → writeAnswer (lent (from (c .before .before))) (length (from (c .before .before) .args .out .now)) ≡ Length (c .enum-told .given .0 .0)
-long c = sym (c .before .before .write-answer .ensures) ∙ c .enum-told .given .1
+long : (c : tie.After-enum-told) → writeAnswer (lent (from (c .before .before))) (length (from (c .before .before) .args .out .now)) ≡ success (c .enum-told .given .0 .0)
+long c = sym (c .before .before .write-answer .ensures) ∙ ap writeSays (c .enum-told .given .1)
 
 facts : (c : tie.After-enum-told) → Writable (lent (from (c .before .before))) (length (from (c .before .before) .args .out .now)) (c .enum-told .given .0 .0)
 facts c = writable _ _ _ (long c)

@@ -11,7 +11,7 @@ use Rattle.refusals.specs.declared.Refusal.the-variants.{TooShort, TooLong, Bad
 use Rattle.refusals.specs.Limits.{leastMonths, mostMonths}
 use Rattle.desk_file.specs.File.{SeriesWithWeights, series, fileLength}
 use Rattle.refusals.specs.Checks.{Check, Before, one-more}
-use Rattle.desk_file.proofs.WriteAnswers.{checks, refused-at, figure-refused, weight-refused, accepted}
+use Rattle.desk_file.proofs.WriteAnswers.{checks, refused-at, figure-refused, weight-refused, all-fit}
 use Rattle.desk_file.proofs.write_answer.Statement.{statement}
 use Rattle.desk_file.proofs.write_answer.Tie as tie
 
@@ -126,7 +126,7 @@ returns-8 c =
     let w = c .before .before in
     let f = w .before .before .before in
     let s = from3 (f .before .before .before) in
-    accepted (lent s) (room s) (before5 (f .before)) (sym (f .first-outside .ensures) ∙ w .before .enum-told .given .1) (sym (w .first-above .ensures) ∙ c .enum-told2 .given .1)
+    all-fit (lent s) (room s) (before5 (f .before)) (sym (f .first-outside .ensures) ∙ w .before .enum-told .given .1) (sym (w .first-above .ensures) ∙ c .enum-told2 .given .1)
 
 pub write-answer-spec : {M : Type 1} → statement M
 write-answer-spec =
