@@ -11,10 +11,10 @@ use lib.IntN.{ℤ}
 use Rattle.refusals.specs.Limits.{unit}
 use Rattle.refusals.specs.Sheet.{Answer, success, refusal}
 use Rattle.refusals.specs.declared.Refusal.{Refusal}
-use Rattle.filters.specs.Filter.{filter, minus}
+use Rattle.filters.specs.Filter.{filter, minus, times}
 use Rattle.filters.specs.Tables.{tableHenderson}
-use Rattle.filters.specs.Distance.{times}
 use Rattle.pass.specs.Steps.{S2}
+use Rattle.pass.proofs.Distances.{pass-near}
 use Rattle.filters.proofs.Distances.{length-times}
 use Rattle.extremes.specs.Spreads.{sizesOf}
 use Rattle.extremes.specs.Weighing.{emptied}
@@ -69,7 +69,7 @@ no-tables e = let z : _≡_ {A = ℕ} 0 1 = cc in omega arith
 
 pub refused : {start : ℕ} {f : List ℤ} {lent : Slices} {q : Refusal} → Stops q start f (lengthsOf lent) → Promise start f lent (Refused q) lent
 unfolding answer after
-refused {start} {f} {lent} {q} h = record { answered = sym (h .row-is _); slices = rw (h .row-is, h .not-six); near = λ e. absurd (no-tables e) }
+refused {start} {f} {lent} {q} h = record { answered = sym (h .row-is _); slices = rw (h .row-is, h .not-six); near = λ e. absurd (no-tables e); pass-b = pass-near _; pass-c = pass-near _; pass-d = pass-near _ }
 
 -- ---- no group is emptied
 not-emptied : {start : ℕ} {f : List ℤ} → Workable start f → groupEmptied start f ≡ false
@@ -125,4 +125,7 @@ tables {start} {f} {lent} {left} h k b c z = record {
   answered = sym (answer-is lent h);
   slices = rw (answer-is lent h) (same left _ (k .seasonal ∙ d10-is start f) (k .adjusted ∙ d11-is start f) (k .trend ∙ d12-is start f) (k .irregular ∙ d13-is start f) b c z);
   near = λ e t l. rw (k .seasonal, k .adjusted, k .trend, k .irregular, ← (b1-is start f)) (near-at (times unit f) (D1 start f) t (omega (arith, length-times unit f)));
+  pass-b = pass-near _;
+  pass-c = pass-near _;
+  pass-d = pass-near _;
 }

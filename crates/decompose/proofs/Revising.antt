@@ -7,8 +7,7 @@ use lib.ListN.{length}
 use lib.IntN.{ℤ}
 use Rattle.integers.specs.Lists.{AllWithin}
 use Rattle.refusals.specs.Limits.{unit}
-use Rattle.filters.specs.Filter.{minus}
-use Rattle.filters.specs.Distance.{times}
+use Rattle.filters.specs.Filter.{minus, times}
 use Rattle.filters.specs.Asks.{Minusable}
 use Rattle.filters.proofs.Distances.{length-times}
 use Rattle.filters.proofs.Largest.{larger}

@@ -7,8 +7,7 @@ use lib.ListN.{length, getD}
 use lib.IntN.{ℤ, pos, _-ℤ_, _*ℤ_}
 use Rattle.integers.specs.Lists.{_‼_, tab}
 use Rattle.integers.specs.Filling.{length-tab, at-tab, tab-same}
-use Rattle.filters.specs.Filter.{minus}
-use Rattle.filters.specs.Distance.{times}
+use Rattle.filters.specs.Filter.{minus, times}
 use Rattle.filters.proofs.Distances.{length-times, at-times}
 use Rattle.extremes.specs.Weighing.{correctionOf}
 use Rattle.decompose.specs.Tables.{corrections}

@@ -9,8 +9,7 @@ use Rattle.integers.specs.Sizes.{_within_, w*, w-lit}
 use Rattle.integers.specs.Lists.{_‼_, AllWithin}
 use Rattle.integers.specs.Filling.{length-tab, tab-within}
 use Rattle.refusals.specs.Limits.{unit, largestFigure}
-use Rattle.filters.specs.Filter.{minus}
-use Rattle.filters.specs.Distance.{times}
+use Rattle.filters.specs.Filter.{minus, times}
 use Rattle.filters.proofs.Distances.{length-times}
 use Rattle.filters.proofs.Largest.{larger, within-minus, within-times}
 use Rattle.filters.proofs.Lengths.{length-minus}

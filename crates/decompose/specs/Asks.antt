@@ -11,9 +11,8 @@ use Rattle.refusals.specs.Limits.{unit, leastMonths, mostMonths, year, largestF
 use Rattle.refusals.specs.Sheet.{row, Answer, refusalOf}
 use Rattle.refusals.specs.declared.Refusal.{Refusal}
 use Rattle.filters.specs.Asks.{largest}
-use Rattle.filters.specs.Filter.{filter, minus}
+use Rattle.filters.specs.Filter.{filter, minus, times}
 use Rattle.filters.specs.Tables.{tableHenderson}
-use Rattle.filters.specs.Distance.{times}
 use Rattle.pass.specs.Steps.{T2, S2}
 use Rattle.extremes.specs.Contracts.{largestIrregular}
 use Rattle.extremes.specs.Weighing.{weightsOf, answerOf}
@@ -87,7 +86,7 @@ pub record Corrected (start : ℕ) (f : List ℤ) (r : Weighed) (x : List ℤ) (
   pub b17-is : b17 ≡ B17 start f
   pub c17-is : c17 ≡ C17 start f
 
--- what pass D takes: x is D1
+-- what pass D takes: x is D1, within 200,000,000 grains and the largest correction (proofs/Sizes.antt)
 pub record Final (f x : List ℤ) : Type 0 where
   pub figures : Figures f
   pub long : leastMonths ≤ length f

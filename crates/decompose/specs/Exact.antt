@@ -1,13 +1,12 @@
 -- Document 01, "Three passes": the exact working of the results, fed B1 and D1 and nothing else of ours, as whole numbers over one denominator.
 use mathlib.Core.Path.{_≡_}
 use mathlib.Core.List.{List}
-use Prim.Native.Nat.{ℕ, _*_, _<_, _≤_}
-use lib.ListN.{length}
-use lib.IntN.{ℤ, pos, natAbs, _+ℤ_, _-ℤ_, _*ℤ_}
+use Prim.Native.Nat.{ℕ, _*_}
+use lib.IntN.{ℤ, _+ℤ_}
 use Rattle.integers.specs.Lists.{_‼_}
-use Rattle.filters.specs.Filter.{exact, minus}
+use Rattle.filters.specs.Filter.{exact, minus, times}
 use Rattle.filters.specs.Tables.{tableHenderson}
-use Rattle.filters.specs.Distance.{times}
+use Rattle.filters.specs.Distance.{Apart}
 use Rattle.pass.specs.Exact.{overHenderson, overS2, exactS2}
 
 -- the denominator of E10 to E13
@@ -31,14 +30,11 @@ module _ (b1 d1 : List ℤ) where
   unfoldable pub E13 : List ℤ
   E13 = minus E11 E12
 
--- the size of d less the fraction e / overE is at most g grains
-abbrev pub Apart : ℕ → ℤ → ℤ → Type 0
-Apart g d e = natAbs (pos overE *ℤ d -ℤ e) ≤ g * overE
-
--- demand 3 at month t, of the tables as the caller gets them
+-- demand 3 at month t, of the tables as the caller gets them: seasonal and adjusted figure within 10 thousandths of a unit, the trend within
+-- 14, the irregular within 24, and the parts add up
 pub record NearAt (b1 d1 d10 d11 d12 d13 : List ℤ) (t : ℕ) : Type 0 where
-  pub seasonal : Apart 10 (d10 ‼ t) (E10 b1 d1 ‼ t)
-  pub adjusted : Apart 10 (d11 ‼ t) (E11 b1 d1 ‼ t)
-  pub trend : Apart 14 (d12 ‼ t) (E12 b1 d1 ‼ t)
-  pub irregular : Apart 24 (d13 ‼ t) (E13 b1 d1 ‼ t)
+  pub seasonal : Apart 10 overE (d10 ‼ t) (E10 b1 d1 ‼ t)
+  pub adjusted : Apart 10 overE (d11 ‼ t) (E11 b1 d1 ‼ t)
+  pub trend : Apart 14 overE (d12 ‼ t) (E12 b1 d1 ‼ t)
+  pub irregular : Apart 24 overE (d13 ‼ t) (E13 b1 d1 ‼ t)
   pub adds-up : (d10 ‼ t) +ℤ (d12 ‼ t) +ℤ (d13 ‼ t) ≡ b1 ‼ t

@@ -11,12 +11,13 @@ use Rattle.refusals.specs.Limits.{leastMonths, mostMonths}
 use Rattle.refusals.specs.Inside.{startInside}
 use Rattle.refusals.specs.First.{firstOutside, refusedAt}
 use Rattle.refusals.specs.Sheet.{Answer, success, refusal, refusalOf}
+use Rattle.pass.specs.Passed.{PassNear}
 use Rattle.extremes.specs.Spreads.{sizesOf}
 use Rattle.extremes.specs.Weighing.{emptied}
 use Rattle.decompose.specs.declared.Lengths.{Lengths}
 use Rattle.decompose.specs.declared.Decomposed.{Decomposed}
 use Rattle.decompose.specs.declared.Decomposed.the-variants.{Tables, Refused}
-use Rattle.decompose.specs.Tables.{B1, B13, B17, C13, C17, D1, D10, D11, D12, D13}
+use Rattle.decompose.specs.Tables.{B1, B13, B17, C1, C13, C17, D1, D10, D11, D12, D13}
 use Rattle.decompose.specs.Exact.{NearAt}
 
 -- the lent slices
@@ -51,7 +52,8 @@ unfoldable pub fitting : ℕ → Lengths → Bool
 fitting n l =
     eqb (l .d10) n && (eqb (l .d11) n && (eqb (l .d12) n && (eqb (l .d13) n && (eqb (l .b17) n && (eqb (l .c17) n && leb (scratchFor n) (l .scratch))))))
 
--- row 6, "dropping leaves a group empty", in the weights of B13 or of C13
+-- row 6, "dropping leaves a group empty", in the weights of B13 or of C13. It never applies (extremes, never-emptied), and stands here because
+-- the sheet has it
 unfoldable pub groupEmptied : ℕ → List ℤ → Bool
 groupEmptied start figures = emptied start (sizesOf (B13 start figures)) || emptied start (sizesOf (C13 start figures))
 
@@ -104,3 +106,7 @@ pub record Promise (start : ℕ) (figures : List ℤ) (lent : Slices) (r : Decom
   -- demand 3: where the answer is tables, at each t from 0 to n - 1
   pub near : says r ≡ success tt → (t : ℕ) → t < length figures
       → NearAt (B1 start figures) (D1 start figures) (left .d10) (left .d11) (left .d12) (left .d13) t
+  -- and what is said of each pass: its X is B1, C1, D1
+  pub pass-b : PassNear (B1 start figures)
+  pub pass-c : PassNear (C1 start figures)
+  pub pass-d : PassNear (D1 start figures)

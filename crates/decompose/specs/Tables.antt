@@ -5,9 +5,8 @@ use lib.ListN.{length, getD}
 use lib.IntN.{ℤ}
 use Rattle.integers.specs.Lists.{_‼_, tab}
 use Rattle.refusals.specs.Limits.{unit}
-use Rattle.filters.specs.Filter.{filter, minus}
+use Rattle.filters.specs.Filter.{filter, minus, times}
 use Rattle.filters.specs.Tables.{tableHenderson}
-use Rattle.filters.specs.Distance.{times}
 use Rattle.pass.specs.Steps.{T2, S2}
 use Rattle.extremes.specs.Weighing.{weightsOf, correctionOf}
 

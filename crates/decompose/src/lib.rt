@@ -5,8 +5,7 @@ ghost use lib.ListN.{length, getD};
 ghost use lib.IntN.{ℤ, pos, _-ℤ_, _*ℤ_};
 ghost use Rattle.integers.specs.Lists.{_‼_, AllWithin};
 ghost use Rattle.refusals.specs.Limits.{unit, mostMonths};
-ghost use Rattle.filters.specs.Filter.{minus};
-ghost use Rattle.filters.specs.Distance.{times};
+ghost use Rattle.filters.specs.Filter.{minus, times};
 ghost use Rattle.extremes.specs.Weighing.{correctionOf};
 ghost use Rattle.decompose.specs.Tables.{corrections, B17, C17, D1};
 ghost use Rattle.decompose.specs.Asks.{Figures, Beside, Weighted, Revisable, WorkSlices, Revision, Workable, Corrected, Final, Finished, Checked};
@@ -74,7 +73,7 @@ fn corrected(figures: &[i32], irregular: &[i64], weights: &[u16], out: &mut [i64
     }
 }
 
-// A pass on x, the weights w of its irregular, and x with the extreme months corrected; a, b, t and s are work space.
+// A pass on x and the weights w of its irregular; x becomes B1 less the corrections. a, b, t and s are work space.
 fn revise(
     figures: &[i32],
     start: u8,

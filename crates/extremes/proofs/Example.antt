@@ -1,9 +1,8 @@
--- "Start month 10 with n 114: eleven years, first and last groups of 51 months."
-use mathlib.Core.Path.{_≡_, refl}
-use lib.ListN.{length}
+-- "Start month 10 with n 114: eleven years, first and last groups of 51 months", by computation.
+use mathlib.Core.Path.{refl}
 use Rattle.integers.specs.Lists.{tabFrom, tab}
-use Rattle.extremes.specs.Years.{yearOf, years, yearStart, months, groupAround, centre, group}
+use Rattle.extremes.specs.Years.{yearOf, years, yearStart, months, groupAround, centre, group, BegunYears}
 
-pub begun-years : (years 10 114 ≡ 11) × (length (group 10 (tab 114 (λ t. t)) 0) ≡ 51) × (length (group 10 (tab 114 (λ t. t)) 10) ≡ 51)
+pub begun-years : BegunYears
 unfolding tabFrom tab yearOf years yearStart months groupAround centre group
-begun-years = (refl, refl, refl)
+begun-years = record { eleven = refl; first = refl; last = refl }

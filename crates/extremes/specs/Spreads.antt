@@ -12,7 +12,7 @@ use Rattle.refusals.specs.Limits.{unit}
 use Rattle.extremes.specs.declared.Spread.{Spread}
 use Rattle.extremes.specs.declared.Spread.the-variants.{Of, Nothing}
 
--- "The irregular is first rounded to whole units": the size of a month's irregular, and the sizes of all months
+-- "The irregular is first rounded to whole units", a half away from zero as everywhere: the size of a month's irregular, and the sizes of all months
 unfoldable pub sizeOf : ℤ → ℕ
 sizeOf z = natAbs (awayFromZero z unit)
 
@@ -37,7 +37,7 @@ keep limit (a ∷ g) = cond (ltb limit (2 * a)) (keep limit g) (a ∷ keep limit
 unfoldable pub remaining : List ℕ → List ℕ
 remaining g = keep (5 * spread g) g
 
--- "and the spread is worked again in the same way"
+-- "and the spread is worked again in the same way". (A group is never emptied: proofs/Laws.antt, never-emptied)
 unfoldable pub secondSpread : List ℕ → ℕ
 secondSpread g = spread (remaining g)
 

@@ -23,13 +23,15 @@ weight σ a =
     (cond (ltb (2 * a) (3 * σ)) fullWeight
     (2500 - nearest (fullWeight * a) σ)))
 
--- the weight of month t by a spread; by the spread of its year; all months, those of a begun year with the rest
+-- the weight of month t by a spread
 unfoldable pub weightBy : ℕ → List ℕ → ℕ → ℕ
 weightBy σ sizes t = weight σ (getD sizes t 0)
 
+-- by the second spread of its year
 unfoldable pub weightAt : ℕ → List ℕ → ℕ → ℕ
 weightAt start sizes t = weightBy (secondSpread (group start sizes (yearOf start t))) sizes t
 
+-- all months, a begun year's too
 unfoldable pub weightsBy : ℕ → List ℕ → List ℕ
 weightsBy start sizes = tab (length sizes) (weightAt start sizes)
 

@@ -1,8 +1,10 @@
--- Document 01, "Spread and weights": years and their groups. Months and years count from 0.
+-- Document 01, "Spread and weights": years and their groups. Months t and years count from 0, the start month from 1.
 use Prim.Native.Nat.{ℕ, _+_, _*_, _-_, _/_, min, max}
+use mathlib.Core.Path.{_≡_}
 use mathlib.Core.List.{List}
 use lib.ListN.{length}
 use lib.Seq.{slice}
+use Rattle.integers.specs.Lists.{tab}
 use Rattle.refusals.specs.Limits.{year}
 
 -- "Years are calendar years from the start month": the year of month t
@@ -31,3 +33,9 @@ centre count y = min (max y 2) (count - 3)
 
 unfoldable pub group : ℕ → List ℕ → ℕ → List ℕ
 group start sizes y = groupAround start sizes (centre (years start (length sizes)) y)
+
+-- "Start month 10 with n 114: eleven years, first and last groups of 51 months" (shown in proofs/Example.antt)
+pub record BegunYears : Type 0 where
+  pub eleven : years 10 114 ≡ 11
+  pub first : length (group 10 (tab 114 (λ t. t)) 0) ≡ 51
+  pub last : length (group 10 (tab 114 (λ t. t)) 10) ≡ 51

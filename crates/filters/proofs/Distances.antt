@@ -13,8 +13,8 @@ use Rattle.integers.specs.Filling.{length-tab, at-tab}
 use Rattle.integers.specs.Rounding.{toGrain}
 use Rattle.integers.specs.RoundingLaws.{toGrain-near}
 use Rattle.integers.specs.Sums.{wsum, norm, wsum-near}
-use Rattle.filters.specs.Filter.{Table, weightAt, denominator, before, after, rowAt, dot, weighed, valueAt, exactAt, filter, exact, reach, inside, exactInside, minus}
-use Rattle.filters.specs.Distance.{Close, Within, times, pick}
+use Rattle.filters.specs.Filter.{Table, weightAt, denominator, before, after, rowAt, dot, weighed, valueAt, exactAt, filter, exact, reach, inside, exactInside, minus, times, pick}
+use Rattle.filters.specs.Distance.{Close, Within}
 use Rattle.filters.proofs.Tests.{AllFair, Fair, fair-place}
 
 -- ---- lists by place: close at each number is close as a list

@@ -11,8 +11,7 @@ use Rattle.integers.specs.Filling.{tab-within}
 use Rattle.integers.specs.Rounding.{toGrain}
 use Rattle.integers.specs.RoundingLaws.{toGrain-size}
 use Rattle.integers.specs.Sums.{wsum, norm, wsum-within}
-use Rattle.filters.specs.Filter.{Table, weightAt, denominator, before, after, rowAt, dot, weighed, valueAt, filter, reach, inside, minus}
-use Rattle.filters.specs.Distance.{times, pick}
+use Rattle.filters.specs.Filter.{Table, weightAt, denominator, before, after, rowAt, dot, weighed, valueAt, filter, reach, inside, minus, times, pick}
 use Rattle.filters.proofs.Tests.{AllFair, Fair, fair-place}
 use Rattle.filters.proofs.Distances.{at-times}
 

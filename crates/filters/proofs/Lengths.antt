@@ -6,9 +6,8 @@ use lib.ListN.{length}
 use lib.IntN.{ℤ, pos, _-ℤ_}
 use Rattle.integers.specs.Lists.{_‼_}
 use Rattle.integers.specs.Filling.{length-tab, at-tab}
-use Rattle.filters.specs.Filter.{Table, valueAt, filter, reach, inside, minus}
+use Rattle.filters.specs.Filter.{Table, valueAt, filter, reach, inside, minus, pick}
 use Rattle.filters.specs.Tables.{table2x12}
-use Rattle.filters.specs.Distance.{pick}
 
 pub length-filter : (F : Table) (x : List ℤ) → length (filter F x) ≡ length x
 unfolding filter

@@ -4,29 +4,20 @@ use mathlib.Core.Bool.{cond}
 use mathlib.Core.List.{List, [], _∷_}
 use Prim.Native.Nat.{ℕ, _+_, _*_, _-_, _/_, _%_, min}
 use lib.Dec.{ltb}
-use lib.ListN.{length, take, drop}
+use lib.ListN.{length}
 use lib.IntN.{ℤ, pos}
 use Rattle.integers.specs.Lists.{tabFrom, tab}
 use Rattle.integers.specs.Rounding.{nearest, awayFromZero}
 use Rattle.integers.specs.Sums.{sumZ, sumN}
-use Rattle.filters.specs.Filter.{Table, weightAt, denominator}
+use Rattle.filters.specs.Filter.{Table, weightAt, denominator, times}
 use Rattle.filters.specs.Tables.{row2x12, rows3x3, rows3x5, rowsHenderson, table2x12, table3x3, table3x5, tableHenderson}
-use Rattle.filters.specs.Henderson.{closedUnder, closedOver, closedRow, endWeight, tableAt, hendersonRows}
-use Rattle.filters.specs.Distance.{times}
+use Rattle.filters.specs.Henderson.{closedUnder, closedOver, closedRow, endWeight, tableAt, hendersonRows, HendersonRule}
 use Rattle.filters.proofs.Tests.{AllFair}
 
--- the symmetric row over 16,796 is the closed formula at n = 8
-abbrev middleHenderson : List ℤ
-middleHenderson = take 13 (drop (6 * 13) rowsHenderson)
-
-pub closed-formula : times (closedUnder 8) middleHenderson ≡ times 16_796 (closedRow 6)
-unfolding closedUnder closedOver closedRow tab tabFrom times
-closed-formula = refl
-
--- each stored row is Musgrave's, with D = 1039 / 10000, and the rows at the start are its mirrors
-pub musgrave-rule : rowsHenderson ≡ hendersonRows 6 16_796 1039 10_000 middleHenderson
-unfolding hendersonRows tableAt endWeight tab tabFrom sumZ awayFromZero nearest
-musgrave-rule = refl
+-- Henderson's rows: the closed formula, and Musgrave's rule with D = 1039/10000
+pub henderson-rule : HendersonRule
+unfolding closedUnder closedOver closedRow hendersonRows tableAt endWeight tab tabFrom times sumZ awayFromZero nearest
+henderson-rule = record { closed-formula = refl; musgrave = refl }
 
 -- each row sums to its denominator, and the rows before the middle one are those after it, mirrored
 abbrev long : Table → ℕ → ℕ

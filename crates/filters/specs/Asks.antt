@@ -16,6 +16,7 @@ largest = 1_700_000_000_000
 abbrev pub widest : ℕ
 widest = 2_300_000_000_000
 
+-- a table from the numbers that the code passes
 abbrev pub table : ℕ → ℕ → ℕ → List ℤ → ℕ → ℕ → Table
 table half step width rows middle ends = record { half = half; step = step; width = width; rows = rows; middle = middle; ends = ends }
 

@@ -1,6 +1,6 @@
 -- One filter for every table of rows, rounded and exact.
 use mathlib.Core.Bool.{cond}
-use mathlib.Core.List.{List}
+use mathlib.Core.List.{List, [], _∷_}
 use Prim.Native.Nat.{ℕ, _+_, _*_, _-_, _/_, min}
 use lib.Dec.{eqb}
 use lib.ListN.{length}
@@ -12,7 +12,7 @@ use Rattle.integers.specs.Sums.{wsum}
 -- A table has 2 half + 1 rows of weights for values `step` months apart: 1 along the series, 12 along a month's run. Its rows stand one
 -- after the other, each `width` places long, and a row's first weight is for its oldest value. Row `half` serves a place with `half`
 -- values on each side; row b below it one with b values before it, row 2 half - a one with a values after it. `middle` is the
--- denominator of row `half`, `ends` that of the others.
+-- denominator of row `half`, `ends` that of the others. (Width 0 is one row for all places: such a table serves `inside` alone.)
 pub record Table : Type 0 where
   pub half : ℕ
   pub step : ℕ
@@ -28,7 +28,8 @@ weightAt F r k = F .rows ‼ (r * F .width + k)
 unfoldable pub denominator : Table → ℕ → ℕ
 denominator F r = cond (eqb r (F .half)) (F .middle) (F .ends)
 
--- at place t of n: how many values precede and follow that a row can take, and the row for so many
+-- at place t of n: how many values precede and follow that a row can take, and the row for so many. A run of six values, which 72 months
+-- give, has three on one side at least (five have two): no place is short on both sides
 unfoldable pub before : Table → ℕ → ℕ
 before F t = min (t / F .step) (F .half)
 
@@ -52,7 +53,8 @@ weighed F x t =
 unfoldable pub valueAt : Table → List ℤ → ℕ → ℤ
 valueAt F x t = toGrain (weighed F x t) (denominator F (rowAt F (length x) t))
 
--- as a whole number over L times the denominator of the values, L being a multiple of the rows' denominators; nothing is rounded
+-- as a whole number over L times the denominator of the values, L being a multiple of the rows' denominators (of those used, proofs/Rows.antt): nothing
+-- is rounded or cut
 unfoldable pub exactAt : Table → ℕ → List ℤ → ℕ → ℤ
 exactAt F L x t = pos (L / denominator F (rowAt F (length x) t)) *ℤ weighed F x t
 
@@ -76,3 +78,12 @@ exactInside F L x = tab (length x - 2 * reach F) (λ i. exactAt F L x (i + reach
 -- differences of tables are exact
 unfoldable pub minus : List ℤ → List ℤ → List ℤ
 minus x y = tab (length x) (λ t. (x ‼ t) -ℤ (y ‼ t))
+
+-- the same numbers over a denominator m times as large
+unfoldable pub times : ℕ → List ℤ → List ℤ
+times m [] = []
+times m (z ∷ zs) = (pos m *ℤ z) ∷ times m zs
+
+-- a series put together from the places g 0, g 1, .. of another
+unfoldable pub pick : ℕ → (ℕ → ℕ) → List ℤ → List ℤ
+pick n g x = tab n (λ t. x ‼ g t)

@@ -1,13 +1,16 @@
 -- Where Henderson's rows come from, in whole numbers: the closed formula of 003 for the middle row, Musgrave's of 003 for the ends.
--- proofs/Rows.antt shows that the stored table obeys both.
+use mathlib.Core.Path.{_≡_}
 use mathlib.Core.Bool.{cond}
 use mathlib.Core.List.{List}
 use Prim.Native.Nat.{ℕ, _+_, _*_, _-_, _/_, _%_}
 use lib.Dec.{ltb, eqb}
+use lib.ListN.{take, drop}
 use lib.IntN.{ℤ, pos, _+ℤ_, _-ℤ_, _*ℤ_}
 use Rattle.integers.specs.Lists.{_‼_, tab}
 use Rattle.integers.specs.Rounding.{awayFromZero}
 use Rattle.integers.specs.Sums.{sumZ}
+use Rattle.filters.specs.Filter.{times}
+use Rattle.filters.specs.Tables.{rowsHenderson}
 
 -- ---- the closed formula. n is two more than the terms on one side; n² - 1 stands for the printed (n - 1)² of the denominator.
 -- The weight i places from the centre is closedOver n i over closedUnder n
@@ -59,3 +62,20 @@ tableAt p W P R w r k =
 
 unfoldable pub hendersonRows : ℕ → ℕ → ℕ → ℕ → List ℤ → List ℤ
 hendersonRows p W P R w = tab ((2 * p + 1) * (2 * p + 1)) (λ i. tableAt p W P R w (i / (2 * p + 1)) (i % (2 * p + 1)))
+
+-- ---- the stored rows (shown in proofs/Rows.antt). The middle row, over 16,796, is the seventh
+abbrev pub middleRow : List ℤ
+middleRow = take 13 (drop (6 * 13) rowsHenderson)
+
+-- D is 1039/10000
+abbrev pub dOver : ℕ
+dOver = 1039
+
+abbrev pub dUnder : ℕ
+dUnder = 10_000
+
+pub record HendersonRule : Type 0 where
+  -- the symmetric weights follow from the closed formula, with six terms on one side: n is 8
+  pub closed-formula : times (closedUnder 8) middleRow ≡ times 16_796 (closedRow 6)
+  -- each stored row obeys Musgrave's rule, the table as a whole
+  pub musgrave : rowsHenderson ≡ hendersonRows 6 16_796 dOver dUnder middleRow

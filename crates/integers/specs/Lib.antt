@@ -1,4 +1,5 @@
--- What every proof of this repository stands on. Definitions that a promise cites stand in Lists, Sums, Rounding and Root; the other files are laws.
+-- What every proof of this repository stands on. A reader of the promises needs Lists, Sums, Rounding and Root, and of Sizes the record `within`;
+-- the other files are laws, and what the code's 64-bit numbers ask.
 pub mod Differences
 pub mod Sizes
 pub mod Order

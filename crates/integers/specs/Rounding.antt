@@ -1,5 +1,5 @@
--- Document 01, "Units and rounding": a fraction is rounded once to the nearest whole number, a half away from zero.
--- Two names for one rule: callers use the laws of the name that document 01 gives to their place, and never that the two agree.
+-- Document 01, "Units and rounding": a fraction is rounded once to the nearest, a half away from zero. `toGrain` is the rounding of every
+-- filter and correction to a grain; `awayFromZero` is that of millionths and whole units. They are one rule today, and nobody relies on that.
 use Prim.Native.Nat.{ℕ, suc, _+_, _*_, _-_, _/_}
 use lib.IntN.{ℤ, pos, negsuc, negℤ}
 

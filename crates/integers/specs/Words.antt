@@ -24,9 +24,6 @@ i-arg {x} f h = record { eq = toZ-ofZ f; bound = h }
 pub i-lit : (n : ℕ) → Reads (pos n) (pos n) n
 i-lit n = record { eq = refl; bound = w-lit n }
 
-pub i-neg-lit : (n : ℕ) → Reads (negsuc n) (negsuc n) (suc n)
-i-neg-lit n = record { eq = refl; bound = record { abs = omega arith } }
-
 -- the operations
 pub i+ : {a b x y : ℤ} {A B : ℕ} → Reads a x A → Reads b y B → Reads (a +ℤ b) (x +ℤ y) (A + B)
 i+ h k = record { eq = ap₂ _+ℤ_ (h .eq) (k .eq); bound = w+ (h .bound) (k .bound) }
@@ -46,7 +43,7 @@ abs-quot (negsuc a) (negsuc b) = div-le-self (suc a) (suc b)
 pub i/ : {a b x y : ℤ} {A B : ℕ} → Reads a x A → Reads b y B → Reads (quotZ a b) (quotZ x y) A
 i/ {x = x} {y = y} h k = record { eq = ap₂ quotZ (h .eq) (k .eq); bound = record { abs = le-trans (abs-quot x y) (h .bound .abs) } }
 
--- what an operation asks; its result, stored and read back; another way to write the number, a wider bound.
+-- what an operation asks; its result, stored and read back; 
 -- That the bound fits is a test, which computes where the bound is made of literals: `i-fits h tt`
 abbrev pub Room : ℕ → Type 0
 Room B = T (ltb B (2 ^ 63))
@@ -56,9 +53,6 @@ i-fits {B = B} h k = subst (SFits w64) (sym (h .eq)) (sfits64 (h .bound) (ltb→
 
 pub i-kept : {t z : ℤ} {B : ℕ} → Reads t z B → Room B → Reads (toZ w64 (ofZ w64 t)) z B
 i-kept h k = record { eq = toZ-ofZ (i-fits h k) ∙ h .eq; bound = h .bound }
-
-pub i-as : {t z z′ : ℤ} {B B′ : ℕ} → Reads t z B → z ≡ z′ → z′ within B′ → Reads t z′ B′
-i-as h e k = record { eq = h .eq ∙ e; bound = k }
 
 -- a divisor
 ofZ-pos : (z : ℤ) → 0 < natAbs z → natAbs z < 2 ^ 63 → 0 < ofZ w64 z
@@ -99,55 +93,12 @@ i≡ {B = B} h e = record { eq = h .eq ∙ e; bound = subst (λ (y : ℤ). y wit
 pub i-within : {t z : ℤ} {B : ℕ} → Reads t z B → t within B
 i-within {B = B} h = subst (λ (y : ℤ). y within B) (sym (h .eq)) (h .bound)
 
--- a comparison of two values, as a branch leaves it
-pub i-lt : {a b x y : ℤ} {A B : ℕ} → Reads a x A → Reads b y B → ltZ a b ≡ true → x <ℤ y
-i-lt h k e = ltZ-yes (subst T (sym (rw (h .eq, k .eq) at e)) tt)
-
-pub i-nlt : {a b x y : ℤ} {A B : ℕ} → Reads a x A → Reads b y B → ltZ a b ≡ false → y ≤ℤ x
-i-nlt h k e = ltZ-no (subst (λ (c : Bool). T (not c)) (sym (rw (h .eq, k .eq) at e)) tt)
-
-pub i-le : {a b x y : ℤ} {A B : ℕ} → Reads a x A → Reads b y B → leZ a b ≡ true → x ≤ℤ y
-i-le h k e = leZ-yes (subst T (sym (rw (h .eq, k .eq) at e)) tt)
-
-nle : (a b : ℤ) → T (not (leZ a b)) → b <ℤ a
-nle (pos a) (pos b) t = ltZ-yes (lt→ltb b a (nleb→lt a b t))
-nle (pos a) (negsuc b) t = ltZ-yes tt
-nle (negsuc a) (pos b) t = absurd t
-nle (negsuc a) (negsuc b) t = ltZ-yes (lt→ltb a b (nleb→lt b a t))
-
-pub i-nle : {a b x y : ℤ} {A B : ℕ} → Reads a x A → Reads b y B → leZ a b ≡ false → y <ℤ x
-i-nle {x = x} {y = y} h k e = nle x y (subst (λ (c : Bool). T (not c)) (sym (rw (h .eq, k .eq) at e)) tt)
-
--- a parameter of which nothing is known but that it fits; a call's result; a cast from an unsigned number
-pub i-any : {x : ℤ} → SFits w64 x → Reads (toZ w64 (ofZ w64 x)) x 9223372036854775808
-i-any {x} f = i-arg f (record { abs = natAbs-le x (f .sfits) })
-
+-- a call's result; a cast from an unsigned number
 pub i-call : {r z : ℤ} {B : ℕ} → mag r < 2 ^ 63 → r ≡ z → z within B → Reads (toZ w64 (ofZ w64 r)) z B
 i-call f e h = record { eq = toZ-ofZ (record { sfits = f }) ∙ e; bound = h }
 
 pub i-cast : {n B : ℕ} → n ≤ B → Room B → Reads (toZ w64 n) (pos n) B
 i-cast h k = i-in (record { abs = h }) k
-
-lt-le : (a b : ℤ) → T (ltZ a b) → T (leZ a b)
-lt-le (pos a) (pos b) t = le→leb a b (le-of-lt (ltb→lt a b t))
-lt-le (pos a) (negsuc b) t = t
-lt-le (negsuc a) (pos b) t = t
-lt-le (negsuc a) (negsuc b) t = le→leb b a (le-of-lt (ltb→lt b a t))
-
-pub i-lt→le : {a b : ℤ} → a <ℤ b → a ≤ℤ b
-i-lt→le {a} {b} h = leZ-yes (lt-le a b (h .lt))
-
--- the size of a number, as `if x < 0 { -x } else { x }` computes it
-pub size-neg : (x : ℤ) → x <ℤ pos 0 → pos 0 -ℤ x ≡ pos (natAbs x)
-size-neg (pos n) h = absurd (below n (ltb→lt n 0 (h .lt)))
-  where
-    below : (n : ℕ) → n < 0 → ⊥
-    below n l = omega arith
-size-neg (negsuc n) h = +ℤ-idl (pos (suc n))
-
-pub size-pos : (x : ℤ) → pos 0 ≤ℤ x → x ≡ pos (natAbs x)
-size-pos (pos n) h = refl
-size-pos (negsuc n) h = absurd (h .le)
 
 -- what a call returned and a local keeps, read again
 pub kept : {z v : ℤ} → mag z < 2 ^ 63 → z ≡ v → toZ w64 (ofZ w64 z) ≡ v

@@ -10,8 +10,10 @@ use Rattle.filters.specs.Tables.{table2x12, table3x3, table3x5, tableHenderson}
 use Rattle.filters.specs.Distance.{Close}
 use Rattle.filters.proofs.Rows.{fair2x12, fair3x3, fair3x5, fairHenderson}
 use Rattle.filters.proofs.Distances.{close-self, close-times, close-pick, close-minus, close-filter, close-inside, grains}
-use Rattle.pass.specs.Steps.{middle, nearest, level, copied, widened, T1, SI1, R1, M1, S1, A1, T2, SI2, R2, M2, S2}
-use Rattle.pass.specs.Exact.{overHenderson, overA1, overT2, overS2, exactLevel, exactT1, exactSI1, exactR1, exactM1, exactS1, exactA1, exactT2, exactSI2, exactR2, exactM2, exactS2, Passed}
+use Rattle.pass.specs.Steps.{level, T1, SI1, R1, M1, S1, A1, T2, SI2, R2, M2, S2}
+use Rattle.pass.specs.Places.{middle, nearest, copied, widened}
+use Rattle.pass.specs.Exact.{overHenderson, overA1, overT2, overS2, exactLevel, exactT1, exactSI1, exactR1, exactM1, exactS1, exactA1, exactT2, exactSI2, exactR2, exactM2, exactS2}
+use Rattle.pass.specs.Passed.{PassNear}
 
 -- ---- what a step does
 close-middle : {b k : ℕ} {x e : List ℤ} → Close b k x e → Close b k (middle x) (middle e)
@@ -87,11 +89,6 @@ module _ (x : List ℤ) where
   unfolding S2 exactS2
   s2 = close-minus (close-times 24 r2) m2
 
-  -- what a pass leaves
-  pub passed : {t s : List ℤ} → t ≡ T2 x → s ≡ S2 x → Passed x t s
-  passed e f = record {
-    trend = e;
-    seasonal = f;
-    trend-near = rw e (grains _ (omega arith) t2);
-    seasonal-near = rw f (grains _ (omega arith) s2);
-  }
+  -- what is said of each pass
+  pub pass-near : PassNear x
+  pass-near = record { trend = grains _ (omega arith) t2; seasonal = grains _ (omega arith) s2 }

@@ -8,9 +8,8 @@ use lib.Seq.{getD-take, getD-drop}
 use lib.IntN.{ℤ, pos, _-ℤ_}
 use Rattle.integers.specs.Lists.{_‼_, tab}
 use Rattle.integers.specs.Filling.{length-tab, at-tab, tab-same}
-use Rattle.filters.specs.Filter.{minus}
-use Rattle.filters.specs.Distance.{pick}
-use Rattle.pass.specs.Steps.{middle, nearest}
+use Rattle.filters.specs.Filter.{minus, pick}
+use Rattle.pass.specs.Places.{middle, nearest}
 
 -- r less its level, as one difference of lists
 pub less-level-is : (r m : List ℤ) → tab (length r) (λ k. (r ‼ k) -ℤ (m ‼ nearest (length r) k)) ≡ minus r (pick (length r) (nearest (length r)) m)

@@ -6,13 +6,13 @@ use native.Mathlib.Omega.{arith}
 use lib.ListN.{length, take, drop}
 use lib.IntN.{ℤ}
 use Rattle.integers.specs.Lists.{AllWithin}
-use Rattle.filters.specs.Filter.{filter, inside, minus}
+use Rattle.filters.specs.Filter.{filter, inside, minus, pick}
 use Rattle.filters.specs.Tables.{table2x12, table3x3, table3x5, tableHenderson}
-use Rattle.filters.specs.Distance.{pick}
 use Rattle.filters.specs.Asks.{largest, Filterable, Minusable}
 use Rattle.filters.proofs.Largest.{larger, within-pick}
 use Rattle.filters.proofs.Lengths.{length-filter, length-2x12, length-minus, length-pick}
-use Rattle.pass.specs.Steps.{middle, nearest, level, widened, T1, SI1, R1, M1, S1, A1, T2, SI2, R2, M2, S2}
+use Rattle.pass.specs.Steps.{level, T1, SI1, R1, M1, S1, A1, T2, SI2, R2, M2, S2}
+use Rattle.pass.specs.Places.{middle, nearest, widened}
 use Rattle.pass.specs.Asks.{Series, Levels, Adjustable}
 use Rattle.pass.proofs.Places.{middle-is}
 use Rattle.pass.proofs.Largest as sizes

@@ -1,4 +1,4 @@
--- What the code of a pass asks of its arguments, and what it leaves. Nothing here is promised to a caller of the desk.
+-- What the code of a pass asks of its arguments. Nothing here is promised to a caller of the desk.
 use mathlib.Core.Path.{_≡_}
 use mathlib.Core.List.{List}
 use Prim.Native.Nat.{ℕ, _+_, _≤_}

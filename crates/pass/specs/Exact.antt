@@ -1,14 +1,12 @@
 -- Document 01, "Three passes": the exact working of a pass. Steps 1 to 7 as whole numbers over a denominator that stands beside each;
 -- each filter is the weighted sum by its row, and nothing is rounded. Repeats, copies and differences are those of the steps.
-use mathlib.Core.Path.{_≡_}
 use mathlib.Core.List.{List}
 use Prim.Native.Nat.{ℕ, _*_}
 use lib.ListN.{length}
 use lib.IntN.{ℤ}
-use Rattle.filters.specs.Filter.{exact, exactInside, minus}
+use Rattle.filters.specs.Filter.{exact, exactInside, minus, times, pick}
 use Rattle.filters.specs.Tables.{table2x12, table3x3, table3x5, tableHenderson}
-use Rattle.filters.specs.Distance.{Within, times, pick}
-use Rattle.pass.specs.Steps.{middle, nearest, widened, T2, S2}
+use Rattle.pass.specs.Places.{middle, nearest, widened}
 
 -- of 16,796 and 1,000,000 the least common multiple
 abbrev pub overHenderson : ℕ
@@ -67,10 +65,3 @@ module _ (x : List ℤ) where
 
   unfoldable pub exactS2 : List ℤ
   exactS2 = minus (times 24 exactR2) exactM2
-
--- what a pass on x leaves: T2 and S2; and in each pass, on its X as it stands, T2 is within 4 grains and S2 within 10 grains of the exact fractions
-pub record Passed (x t s : List ℤ) : Type 0 where
-  pub trend : t ≡ T2 x
-  pub seasonal : s ≡ S2 x
-  pub trend-near : Within 4 overT2 t (exactT2 x)
-  pub seasonal-near : Within 10 overS2 s (exactS2 x)

@@ -1,41 +1,23 @@
 -- Document 01, "One pass": steps 1 to 7 on a series X of n grains. T1, SI1, R1 and M1 stand for t from 6 to n - 7: as lists their
--- place 0 is t = 6, so that a run's first and last value are those of the list. (A difference of places below 0 is 0.)
-use mathlib.Core.Bool.{cond}
+-- place 0 is t = 6, so that a run's first and last value are those of the list.
 use mathlib.Core.List.{List}
-use Prim.Native.Nat.{ℕ, _+_, _-_, min}
-use lib.Dec.{ltb}
+use Prim.Native.Nat.{ℕ}
 use lib.ListN.{length}
 use lib.IntN.{ℤ}
-use Rattle.filters.specs.Filter.{filter, inside, minus}
+use Rattle.filters.specs.Filter.{filter, inside, minus, pick}
 use Rattle.filters.specs.Tables.{table2x12, table3x3, table3x5, tableHenderson}
-use Rattle.filters.specs.Distance.{pick}
-
--- the months from t 6 to n - 7 of a series
-unfoldable pub middle : List ℤ → List ℤ
-middle x = pick (length x - 12) (λ i. i + 6) x
-
--- 2×12 has n - 12 values, the first at place 6 and the last at place n - 7: the number of the value nearest to place t
-unfoldable pub nearest : ℕ → ℕ → ℕ
-nearest n t = min (t - 6) (n - 13)
+use Rattle.pass.specs.Places.{middle, nearest, widened}
 
 -- 2×12 of a series, the nearest of its values being repeated at both ends
 unfoldable pub level : List ℤ → List ℤ
 level r = pick (length r) (nearest (length r)) (inside table2x12 r)
-
--- which of the numbers for t 6 to n - 7 month t of n takes: the first six months that of twelve months later, the last six that of twelve months earlier
-unfoldable pub copied : ℕ → ℕ → ℕ
-copied n t = cond (ltb t 6) (t + 12 - 6) (cond (ltb t (n - 6)) (t - 6) (t - 12 - 6))
-
--- all n months from the n - 12 in the middle
-unfoldable pub widened : List ℤ → List ℤ
-widened s = pick (length s + 12) (copied (length s + 12)) s
 
 module _ (x : List ℤ) where
   -- 1. T1 is 2×12 of X, at t from 6 to n - 7
   unfoldable pub T1 : List ℤ
   T1 = inside table2x12 x
 
-  -- 2. SI1 is X less T1, there
+  -- 2. SI1 is X less T1, there. (Values inside SI1 and SI2 are not replaced.)
   unfoldable pub SI1 : List ℤ
   SI1 = minus (middle x) T1
 
@@ -43,7 +25,8 @@ module _ (x : List ℤ) where
   unfoldable pub R1 : List ℤ
   R1 = filter table3x3 SI1
 
-  -- 4. M1 is 2×12 of R1, repeated at both ends; S1 is R1 less M1, the outer six months copied
+  -- 4. M1 is 2×12 of R1, at t from 12 to n - 13; t 6 to 11 take its value at 12, t n - 12 to n - 7 its value at n - 13. S1 is R1 less
+  -- M1; the first six months take S1 twelve months later, the last six S1 twelve months earlier
   unfoldable pub M1 : List ℤ
   M1 = level R1
 
@@ -64,7 +47,7 @@ module _ (x : List ℤ) where
   unfoldable pub R2 : List ℤ
   R2 = filter table3x5 SI2
 
-  -- 7. M2 is 2×12 of R2, repeated at both ends; S2 is R2 less M2
+  -- 7. M2 is 2×12 of R2, at t from 6 to n - 7, the nearest of these values being repeated at both ends. S2 is R2 less M2
   unfoldable pub M2 : List ℤ
   M2 = level R2
 

@@ -5,12 +5,12 @@ ghost use Prim.Native.Nat.{ℕ, _+_, _*_, _-_, _≤_, _<_, min};
 ghost use lib.ListN.{length};
 ghost use lib.IntN.{ℤ, pos, _-ℤ_};
 ghost use Rattle.integers.specs.Lists.{_‼_, AllWithin};
-ghost use Rattle.filters.specs.Filter.{filter, inside, minus};
+ghost use Rattle.filters.specs.Filter.{filter, inside, minus, pick};
 ghost use Rattle.filters.specs.Tables.{table2x12, tableHenderson};
-ghost use Rattle.filters.specs.Distance.{pick};
 ghost use Rattle.filters.specs.Asks.{largest, Minusable};
-ghost use Rattle.pass.specs.Steps.{nearest, level, copied, widened, T2, S1, S2};
-ghost use Rattle.pass.specs.Exact.{Passed};
+ghost use Rattle.pass.specs.Steps.{level, T2, S1, S2};
+ghost use Rattle.pass.specs.Places.{nearest, copied, widened};
+ghost use Rattle.pass.specs.Passed.{Passed};
 ghost use Rattle.pass.specs.Asks.{Series, Levels, Lent, Adjustable, Work};
 
 // The number of the 2x12 value nearest to place t of n.

@@ -1,5 +1,5 @@
 -- The pencil cases, all at once and by computation.
-use mathlib.Core.Path.{_≡_, refl}
+use mathlib.Core.Path.{refl}
 use Rattle.integers.specs.Lists.{tabFrom, tab}
 use Rattle.integers.specs.Root.{oneMore, rootIn, root}
 use Rattle.integers.specs.Rounding.{nearest, awayFromZero, toGrain}
@@ -8,9 +8,9 @@ use Rattle.filters.specs.Filter.{weightAt, denominator, before, after, rowAt, d
 use Rattle.filters.specs.Tables.{table2x12, table3x3, table3x5, tableHenderson}
 use Rattle.extremes.specs.Spreads.{squares, spread, keep, remaining, secondSpread}
 use Rattle.extremes.specs.Weighing.{weight, correctionOf}
-use Rattle.pencil.specs.Pencil.{found, wanted, pencil}
+use Rattle.pencil.specs.Pencil.{pencil, PencilHolds}
 
-pub pencil-holds : found pencil ≡ wanted pencil
+pub pencil-holds : PencilHolds
 unfolding pencil tabFrom tab oneMore rootIn root nearest awayFromZero toGrain sumZ weightAt denominator before after rowAt dot weighed valueAt filter
     reach inside table2x12 table3x3 table3x5 tableHenderson squares spread keep remaining secondSpread weight correctionOf
 pencil-holds = refl

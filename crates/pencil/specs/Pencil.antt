@@ -1,4 +1,5 @@
 -- Document 01, "Pencil cases": those marked P, in its order. Each line has what the rules give, and what is written there.
+use mathlib.Core.Path.{_≡_}
 use mathlib.Core.Bool.{cond}
 use mathlib.Core.List.{List, [], _∷_, map}
 use Prim.Native.Nat.{ℕ, _-_}
@@ -11,6 +12,7 @@ use Rattle.filters.specs.Tables.{table2x12, table3x3, table3x5, tableHenderson}
 use Rattle.extremes.specs.Spreads.{spread, secondSpread}
 use Rattle.extremes.specs.Weighing.{weight, correctionOf}
 
+-- a case: what the rules find, and what is wanted
 infix 5 _gives_
 pub data Case : Type 0 where
   _gives_ : List ℤ → List ℤ → Case
@@ -46,7 +48,7 @@ pencil =
     (at2x12 (one 30 24_000) (30 ∷ 24 ∷ 36 ∷ []) gives whole (2000 ∷ 1000 ∷ 1000 ∷ []))
     -- Henderson, 16,796 at one place with at least twelve months on each side, else 0: 4,032 there, 3,600 next, -325 at six away
     ∷ (at (filter tableHenderson (one 30 16_796)) (30 ∷ 29 ∷ 31 ∷ 24 ∷ 36 ∷ []) gives (pos 4032 ∷ pos 3600 ∷ pos 3600 ∷ negsuc 324 ∷ negsuc 324 ∷ []))
-    -- 3×3, run ending in 27,000, else 0: last three results 3,000, 7,000, 11,000. A run ends at places 35, 47, 59, 71
+    -- 3×3, run ending in 27,000, else 0: last three results 3,000, 7,000, 11,000. December's run of six years ends at places 35, 47, 59, 71
     ∷ (at (filter table3x3 (one 71 27_000)) (47 ∷ 59 ∷ 71 ∷ []) gives whole (3000 ∷ 7000 ∷ 11_000 ∷ []))
     -- 3×5, run ending in 60,000, else 0: last four 4,000, 9,000, 15,000, 17,000
     ∷ (at (filter table3x5 (one 71 60_000)) (35 ∷ 47 ∷ 59 ∷ 71 ∷ []) gives whole (4000 ∷ 9000 ∷ 15_000 ∷ 17_000 ∷ []))
@@ -62,3 +64,7 @@ pencil =
     ∷ (whole (spread group ∷ secondSpread group ∷ []) gives whole (0 ∷ 0 ∷ []))
     ∷ (whole (map (weight (secondSpread group)) group) gives whole (1000 ∷ 1000 ∷ 1000 ∷ 0 ∷ []))
     ∷ []
+
+-- the whole list holds (shown in proofs/Cases.antt)
+abbrev pub PencilHolds : Type 0
+PencilHolds = found pencil ≡ wanted pencil

@@ -1,4 +1,5 @@
--- Document 01, "Refusal sheet": the number and the place of each row. Every promise on a refusal goes through `row`.
+-- Document 01, "Refusal sheet": the number and the place of each row. The promises of the public entry
+-- points speak of a refusal through `row`.
 use Prim.Native.Nat.{ℕ}
 use Rattle.refusals.specs.declared.Refusal.{Refusal}
 use Rattle.refusals.specs.declared.Refusal.the-variants.{TooShort, TooLong, BadStart, WrongLength, FigureOutside, EmptyGroup, NoHeader, BadPeriod, BadFileLength, WeightAbove}

@@ -3,7 +3,7 @@
 use mathlib.Core.Path.{_≡_}
 use native.Mathlib.Omega.{arith}
 use Rattle.refusals.specs.Limits.{unit}
-use Rattle.filters.specs.Distance.{times}
+use Rattle.filters.specs.Filter.{times}
 use Rattle.decompose.specs.Asks.{irregularOf}
 use Rattle.decompose.proofs.Revising.{series, beside, minusable, to-irregular, weighable, weighted, revision}
 use borrow.Author.Needs.{needs}

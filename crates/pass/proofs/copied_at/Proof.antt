@@ -2,7 +2,7 @@
 -- Assumes nothing.
 use native.Mathlib.Omega.{arith}
 use borrow.Author.Tests.{lt-ltb, le-ltb}
-use Rattle.pass.specs.Steps.{copied}
+use Rattle.pass.specs.Places.{copied}
 use borrow.Author.Needs.{needs}
 use Rattle.pass.proofs.copied_at.Statement.{statement}
 use Rattle.pass.proofs.copied_at.Tie as tie

@@ -7,9 +7,8 @@ use lib.ListN.{length}
 use lib.IntN.{pos, _-ℤ_}
 use Rattle.integers.specs.Lists.{_‼_}
 use Rattle.integers.specs.Words.{kept}
-use Rattle.filters.specs.Filter.{minus}
-use Rattle.filters.specs.Distance.{pick}
-use Rattle.pass.specs.Steps.{nearest}
+use Rattle.filters.specs.Filter.{minus, pick}
+use Rattle.pass.specs.Places.{nearest}
 use Rattle.pass.proofs.Places.{less-level-is}
 use Rattle.integers.specs.Filling.{Filled, filled-none, filled-more, filled-tab}
 use Rattle.pass.proofs.less_level.Statement.{statement}

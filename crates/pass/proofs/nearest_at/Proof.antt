@@ -1,7 +1,7 @@
 -- `pass::nearest_at` meets its contract: the three branches are the lesser of two numbers.
 -- Assumes nothing.
 use native.Mathlib.Omega.{arith}
-use Rattle.pass.specs.Steps.{nearest}
+use Rattle.pass.specs.Places.{nearest}
 use borrow.Author.Needs.{needs}
 use Rattle.pass.proofs.nearest_at.Statement.{statement}
 use Rattle.pass.proofs.nearest_at.Tie as tie

@@ -6,7 +6,7 @@ use mathlib.Core.List.{_++_}
 use native.Mathlib.Omega.{arith}
 use lib.ListN.{length, drop}
 use Rattle.integers.specs.Fronts.{front-long, front-more, front-kept}
-use Rattle.pass.proofs.Distances.{passed}
+use Rattle.pass.proofs.Distances.{pass-near}
 use Rattle.pass.proofs.Stages.{adjustable, to-t2}
 use borrow.Author.Needs.{needs}
 use Rattle.pass.proofs.one_pass.Statement.{statement}
@@ -86,7 +86,7 @@ same-length-4 c = search needs
 
 returns : tie.Need-returns
 returns c = let l = c .before .before .before in let p = l .before .before .before .before .before .before .before in let f = p .before .before .before .before .before .before .before .before in let s = f .before .before .before .before .before in
-    passed _ (to-t2 (s .pre .0) (f .first-seasonal .ensures) (p .trend .ensures)) (l .final-seasonal .ensures)
+    record { trend = to-t2 (s .pre .0) (f .first-seasonal .ensures) (p .trend .ensures); seasonal = l .final-seasonal .ensures; near = pass-near _ }
 
 pub one-pass-spec : {M : Type 1} → statement M
 one-pass-spec =

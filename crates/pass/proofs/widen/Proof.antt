@@ -7,8 +7,8 @@ use lib.ListN.{length}
 use lib.IntN.{pos, _-ℤ_}
 use Rattle.integers.specs.Lists.{_‼_}
 use Rattle.integers.specs.Words.{kept}
-use Rattle.filters.specs.Distance.{pick}
-use Rattle.pass.specs.Steps.{copied, widened}
+use Rattle.filters.specs.Filter.{pick}
+use Rattle.pass.specs.Places.{copied, widened}
 use Rattle.integers.specs.Filling.{Filled, filled-none, filled-more, filled-tab}
 use Rattle.pass.proofs.widen.Statement.{statement}
 use Rattle.pass.proofs.widen.Tie as tie
