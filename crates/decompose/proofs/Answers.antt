@@ -1,11 +1,11 @@
 -- The promise at each return of decomposing.
-use mathlib.Core.Path.{_≡_, refl, sym, ap, subst, _∙_}
-use mathlib.Core.Bool.{Bool, true, false, cond, _&&_, _||_}
+use mathlib.Core.Path.{_≡_, refl, sym, ap, _∙_}
+use mathlib.Core.Bool.{Bool, true, false, _&&_}
 use mathlib.Core.List.{List}
-use Prim.Native.Nat.{ℕ, _*_, _≤_, _<_}
+use Prim.Native.Nat.{ℕ, _≤_}
 use native.Mathlib.Omega.{arith}
 use borrow.Author.Tests.{eqb-true, leb-true}
-use lib.Dec.{eqb, leb}
+use lib.Dec.{eqb}
 use lib.ListN.{length}
 use lib.IntN.{ℤ}
 use Rattle.refusals.specs.Limits.{unit}
@@ -20,11 +20,9 @@ use Rattle.extremes.specs.Spreads.{sizesOf}
 use Rattle.extremes.specs.Weighing.{emptied}
 use Rattle.extremes.proofs.Laws.{never-emptied}
 use Rattle.decompose.specs.Tables.{B1, B13, C13, D1, D10, D11, D12, D13, B17, C17}
-use Rattle.decompose.specs.Exact.{NearAt}
-use Rattle.decompose.specs.Promise.{Slices, scratchFor, lengthsOf, fitting, groupEmptied, checked, answer, zeroed, after, Promise}
+use Rattle.decompose.specs.Promise.{Slices, scratchFor, lengthsOf, fitting, groupEmptied, answer, zeroed, after, Promise}
 use Rattle.decompose.specs.Asks.{Workable, Finished, Passes, Stops}
 use Rattle.decompose.specs.declared.Lengths.{Lengths}
-use Rattle.decompose.specs.declared.Decomposed.{Decomposed}
 use Rattle.decompose.specs.declared.Decomposed.the-variants.{Tables, Refused}
 use Rattle.decompose.proofs.Sizes.{length-irregular}
 use Rattle.decompose.proofs.Passes.{b1-is, b13-is, c13-is}

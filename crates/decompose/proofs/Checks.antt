@@ -1,12 +1,12 @@
 -- Rows 1 to 5: what each test on the way says of the answer.
-use mathlib.Core.Path.{_≡_, refl, sym, ap, _∙_}
-use mathlib.Core.Bool.{Bool, true, false, not}
+use mathlib.Core.Path.{_≡_, refl}
+use mathlib.Core.Bool.{true, false}
 use mathlib.Core.List.{List}
 use Prim.Native.Nat.{ℕ, _+_, _≤_, _<_}
 use native.Mathlib.Omega.{arith}
 use native.Mathlib.Decide.{decLe}
 use borrow.Author.Tests.{lt-ltb, le-ltb}
-use lib.ListN.{length, getD, List·getD-eq-default}
+use lib.ListN.{length, List·getD-eq-default}
 use lib.IntN.{ℤ, pos}
 use Rattle.integers.specs.Sizes.{_within_, by-abs}
 use Rattle.integers.specs.Lists.{_‼_, AllWithin}
@@ -18,7 +18,7 @@ use Rattle.refusals.specs.FirstLaws.{Passed, all-passed}
 use Rattle.refusals.specs.declared.Found.the-variants.{At, Nowhere}
 use Rattle.refusals.specs.declared.Refusal.the-variants.{TooShort, TooLong, BadStart, WrongLength, FigureOutside}
 use Rattle.decompose.specs.Promise.{fitting, checked}
-use Rattle.decompose.specs.Asks.{Figures, Workable, Passes, Stops}
+use Rattle.decompose.specs.Asks.{Passes, Stops}
 use Rattle.decompose.specs.declared.Lengths.{Lengths}
 
 -- figures of which none is outside

@@ -4,7 +4,7 @@ use mathlib.Core.List.{List}
 use Prim.Native.Nat.{ℕ, _<_}
 use native.Mathlib.Omega.{arith}
 use lib.ListN.{length}
-use lib.IntN.{ℤ, _+ℤ_, _-ℤ_}
+use lib.IntN.{ℤ, _+ℤ_}
 use Rattle.integers.specs.Differences.{rep, ringℤ}
 use Rattle.integers.specs.Lists.{_‼_}
 use Rattle.filters.specs.Filter.{filter, minus}

@@ -1,7 +1,7 @@
 -- The three passes: what each leaves is the next table of the rules, and is what the next asks.
 use mathlib.Core.Path.{_≡_, refl, sym, ap, _∙_}
 use mathlib.Core.List.{List}
-use Prim.Native.Nat.{ℕ, _*_, _≤_}
+use Prim.Native.Nat.{ℕ, _*_}
 use native.Mathlib.Omega.{arith}
 use lib.ListN.{length}
 use lib.IntN.{ℤ}
@@ -13,7 +13,7 @@ use Rattle.filters.specs.Asks.{Minusable}
 use Rattle.filters.proofs.Distances.{length-times}
 use Rattle.filters.proofs.Largest.{larger, within-minus}
 use Rattle.filters.proofs.Lengths.{length-filter, length-minus}
-use Rattle.pass.specs.Steps.{T2, S2}
+use Rattle.pass.specs.Steps.{S2}
 use Rattle.pass.specs.Asks.{Series, Adjustable}
 use Rattle.pass.proofs.Largest as pass
 use Rattle.pass.proofs.Stages.{length-s2}
@@ -22,7 +22,7 @@ use Rattle.extremes.specs.declared.Weighed.{Weighed}
 use Rattle.extremes.specs.declared.Weighed.the-variants.{Weights, EmptyGroup}
 use Rattle.extremes.proofs.Laws.{always-weighed}
 use Rattle.decompose.specs.Tables.{B1, B7, B10, B13, B17, B20, C1, C7, C10, C13, C17, C20, D1}
-use Rattle.decompose.specs.Asks.{Figures, Beside, Revisable, irregularOf, revised, Revision, Workable, Corrected, Final, Finished}
+use Rattle.decompose.specs.Asks.{Beside, Revisable, irregularOf, revised, Revision, Workable, Corrected, Final, Finished}
 use Rattle.decompose.proofs.Sizes.{length-irregular, length-revised, within-b1, within-adjusted, within-revised}
 
 -- ---- the tables of the rules by the steps of the code

@@ -1,7 +1,7 @@
 -- What each call of a revision leaves, and what the next one asks.
 use mathlib.Core.Path.{_≡_, sym, ap, _∙_}
 use mathlib.Core.List.{List}
-use Prim.Native.Nat.{ℕ, _*_, _≤_}
+use Prim.Native.Nat.{ℕ, _*_}
 use native.Mathlib.Omega.{arith}
 use lib.ListN.{length}
 use lib.IntN.{ℤ}
@@ -16,12 +16,12 @@ use Rattle.pass.specs.Steps.{T2, S2}
 use Rattle.pass.specs.Asks.{Series}
 use Rattle.pass.proofs.Largest as pass
 use Rattle.pass.proofs.Stages.{length-t2, length-s2}
-use Rattle.extremes.specs.Contracts.{Calendar, Weighable, Outcome}
+use Rattle.extremes.specs.Contracts.{Weighable}
 use Rattle.extremes.specs.Weighing.{weightsOf, answerOf}
 use Rattle.extremes.specs.declared.Weighed.{Weighed}
 use Rattle.extremes.proofs.Laws.{length-weights, weights-most}
 use Rattle.decompose.specs.Tables.{corrections}
-use Rattle.decompose.specs.Asks.{Figures, Beside, Weighted, Revisable, irregularOf, revised, Revision}
+use Rattle.decompose.specs.Asks.{Beside, Weighted, Revisable, irregularOf, revised, Revision}
 use Rattle.decompose.proofs.Sizes.{length-irregular, within-adjusted, within-irregular}
 
 -- half of the bound of x

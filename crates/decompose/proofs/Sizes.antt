@@ -1,21 +1,20 @@
 -- How large the tables of the three passes can be: B1 within 200,000,000 grains, C1 within 4,700,000,000, D1 within 101,450,000,000.
 use mathlib.Core.Path.{_≡_, _∙_}
 use mathlib.Core.List.{List}
-use Prim.Native.Nat.{ℕ, _+_, _*_, _≤_}
+use Prim.Native.Nat.{ℕ, _+_, _*_}
 use native.Mathlib.Omega.{arith}
 use lib.ListN.{length, getD}
 use lib.IntN.{ℤ, pos, _*ℤ_}
 use Rattle.integers.specs.Sizes.{_within_, w*, w-lit}
 use Rattle.integers.specs.Lists.{_‼_, AllWithin}
-use Rattle.integers.specs.Filling.{length-tab, tab-within}
+use Rattle.integers.specs.Filling.{tab-within}
 use Rattle.refusals.specs.Limits.{unit, largestFigure}
 use Rattle.filters.specs.Filter.{minus, times}
-use Rattle.filters.proofs.Distances.{length-times}
 use Rattle.filters.proofs.Largest.{larger, within-minus, within-times}
 use Rattle.filters.proofs.Lengths.{length-minus}
 use Rattle.pass.specs.Steps.{T2, S2}
 use Rattle.pass.proofs.Largest as pass
-use Rattle.extremes.specs.Weighing.{weightsOf, correctionOf}
+use Rattle.extremes.specs.Weighing.{correctionOf}
 use Rattle.extremes.proofs.Laws.{correction-within}
 use Rattle.decompose.specs.Tables.{corrections}
 use Rattle.decompose.specs.Asks.{Figures, irregularOf, revised}

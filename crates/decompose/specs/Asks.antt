@@ -2,16 +2,16 @@
 use mathlib.Core.Path.{_≡_}
 use mathlib.Core.Bool.{true, false}
 use mathlib.Core.List.{List}
-use Prim.Native.Nat.{ℕ, _*_, _≤_, _<_}
+use Prim.Native.Nat.{ℕ, _≤_, _<_}
 use lib.Dec.{eqb}
 use lib.ListN.{length, getD}
 use lib.IntN.{ℤ}
 use Rattle.integers.specs.Lists.{AllWithin}
-use Rattle.refusals.specs.Limits.{unit, leastMonths, mostMonths, year, largestFigure, fullWeight}
+use Rattle.refusals.specs.Limits.{leastMonths, mostMonths, year, largestFigure, fullWeight}
 use Rattle.refusals.specs.Sheet.{row, Answer, refusalOf}
 use Rattle.refusals.specs.declared.Refusal.{Refusal}
 use Rattle.filters.specs.Asks.{largest}
-use Rattle.filters.specs.Filter.{filter, minus, times}
+use Rattle.filters.specs.Filter.{filter, minus}
 use Rattle.filters.specs.Tables.{tableHenderson}
 use Rattle.pass.specs.Steps.{T2, S2}
 use Rattle.extremes.specs.Contracts.{largestIrregular}

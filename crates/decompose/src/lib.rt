@@ -1,9 +1,9 @@
 // Document 01, "Three passes" and "Refusal sheet": a series into its tables. The tables that the caller lends are the work space.
 ghost use mathlib.Core.Path.{_≡_};
-ghost use Prim.Native.Nat.{ℕ, _*_, _≤_, _<_};
+ghost use Prim.Native.Nat.{_*_, _≤_, _<_};
 ghost use lib.ListN.{length, getD};
 ghost use lib.IntN.{ℤ, pos, _-ℤ_, _*ℤ_};
-ghost use Rattle.integers.specs.Lists.{_‼_, AllWithin};
+ghost use Rattle.integers.specs.Lists.{_‼_};
 ghost use Rattle.refusals.specs.Limits.{unit, mostMonths};
 ghost use Rattle.filters.specs.Filter.{minus, times};
 ghost use Rattle.extremes.specs.Weighing.{correctionOf};

@@ -9,13 +9,13 @@ use lib.IntN.{ℤ, pos, natAbs, _+ℤ_, _-ℤ_, _*ℤ_}
 use Rattle.integers.specs.Differences.{rep, ringℤ}
 use Rattle.integers.specs.Sizes.{absℤ, abs-add, abs-sub, abs-mul}
 use Rattle.integers.specs.Lists.{_‼_, tabFrom, tab}
-use Rattle.integers.specs.Filling.{length-tab, at-tab}
+use Rattle.integers.specs.Filling.{length-tab}
 use Rattle.integers.specs.Rounding.{toGrain}
 use Rattle.integers.specs.RoundingLaws.{toGrain-near}
 use Rattle.integers.specs.Sums.{wsum, norm, wsum-near}
 use Rattle.filters.specs.Filter.{Table, weightAt, denominator, before, after, rowAt, dot, weighed, valueAt, exactAt, filter, exact, reach, inside, exactInside, minus, times, pick}
 use Rattle.filters.specs.Distance.{Close, Within}
-use Rattle.filters.proofs.Tests.{AllFair, Fair, fair-place}
+use Rattle.filters.proofs.Tests.{AllFair, fair-place}
 
 -- ---- lists by place: close at each number is close as a list
 closeFrom : (lo n b k : ℕ) (f g : ℕ → ℤ) → ((t : ℕ) → natAbs (pos k *ℤ f t -ℤ g t) * 1000 ≤ b * k)

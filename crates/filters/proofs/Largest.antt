@@ -1,18 +1,17 @@
 -- How large a table can be: one law for each thing that a step does.
 use mathlib.Core.List.{List}
-use Prim.Native.Nat.{ℕ, _+_, _*_, _-_, _≤_, _<_}
-use native.Mathlib.Nat.{le-trans, mul-le-mul-left, mul-le-mul-right, le-of-mul-le-mul-left}
+use Prim.Native.Nat.{ℕ, _+_, _*_, _-_, _≤_}
+use native.Mathlib.Nat.{mul-le-mul-left, mul-le-mul-right, le-of-mul-le-mul-left}
 use native.Mathlib.Omega.{arith}
 use lib.ListN.{length}
-use lib.IntN.{ℤ, pos, natAbs, _-ℤ_}
+use lib.IntN.{ℤ, _-ℤ_}
 use Rattle.integers.specs.Sizes.{_within_, w-, w*, w-lit, w≤}
-use Rattle.integers.specs.Lists.{_‼_, tab, AllWithin}
+use Rattle.integers.specs.Lists.{_‼_, AllWithin}
 use Rattle.integers.specs.Filling.{tab-within}
-use Rattle.integers.specs.Rounding.{toGrain}
 use Rattle.integers.specs.RoundingLaws.{toGrain-size}
 use Rattle.integers.specs.Sums.{wsum, norm, wsum-within}
 use Rattle.filters.specs.Filter.{Table, weightAt, denominator, before, after, rowAt, dot, weighed, valueAt, filter, reach, inside, minus, times, pick}
-use Rattle.filters.proofs.Tests.{AllFair, Fair, fair-place}
+use Rattle.filters.proofs.Tests.{AllFair, fair-place}
 use Rattle.filters.proofs.Distances.{at-times}
 
 pub larger : {b c : ℕ} {x : List ℤ} → AllWithin b x → b ≤ c → AllWithin c x

@@ -10,7 +10,7 @@ use Rattle.integers.specs.Lists.{tabFrom, tab}
 use Rattle.integers.specs.Rounding.{nearest, awayFromZero}
 use Rattle.integers.specs.Sums.{sumZ, sumN}
 use Rattle.filters.specs.Filter.{Table, weightAt, denominator, times}
-use Rattle.filters.specs.Tables.{row2x12, rows3x3, rows3x5, rowsHenderson, table2x12, table3x3, table3x5, tableHenderson}
+use Rattle.filters.specs.Tables.{rows3x3, rows3x5, rowsHenderson, table2x12, table3x3, table3x5, tableHenderson}
 use Rattle.filters.specs.Henderson.{closedUnder, closedOver, closedRow, endWeight, tableAt, hendersonRows, HendersonRule}
 use Rattle.filters.proofs.Tests.{AllFair}
 

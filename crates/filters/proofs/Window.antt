@@ -1,5 +1,5 @@
 -- The row and the values that a filter reads are there, and its sum is small.
-use mathlib.Core.Path.{_≡_, subst}
+use mathlib.Core.Path.{_≡_}
 use mathlib.Core.List.{List}
 use Prim.Native.Nat.{ℕ, _+_, _*_, _-_, _/_, _≤_, _<_, min}
 use native.Mathlib.Nat.{le-trans, div-add-mod', mul-le-mul-right, add-mul}

@@ -1,9 +1,8 @@
 // Document 01, "Filters": every moving average, over constant rows and one filter.
 ghost use mathlib.Core.Path.{_≡_};
-ghost use mathlib.Core.List.{List};
-ghost use Prim.Native.Nat.{ℕ, _+_, _*_, _-_, _≤_, _<_, min};
+ghost use Prim.Native.Nat.{_+_, _*_, _-_, _≤_, _<_, min};
 ghost use lib.ListN.{length};
-ghost use lib.IntN.{ℤ, pos, _-ℤ_};
+ghost use lib.IntN.{pos, _-ℤ_};
 ghost use Rattle.integers.specs.Sizes.{_within_};
 ghost use Rattle.integers.specs.Lists.{_‼_, tab};
 ghost use Rattle.integers.specs.Rounding.{toGrain};

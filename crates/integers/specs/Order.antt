@@ -1,14 +1,12 @@
 -- The order of ℤ as an order of naturals, for `simp` and `omega`.
-use mathlib.Core.Path.{_≡_, refl, sym, subst}
-use mathlib.Core.Bool.{Bool, true, false, not}
 use mathlib.Core.Logic.{_↔_}
-use Prim.Native.Nat.{ℕ, zero, suc, _+_, _*_, _<_, _≤_}
+use Prim.Native.Nat.{ℕ, _+_, _<_, _≤_}
 use native.Mathlib.Omega.{arith}
-use lib.Dec.{T, ltb, leb, ltb→lt, lt→ltb, leb→le, le→leb, not-T}
-use lib.IntN.{ℤ, pos, negsuc, negℤ, natAbs, _+ℤ_, _-ℤ_, _*ℤ_}
-use lib.Signed.{ltZ, leZ, _≤ℤ_, _<ℤ_, leZ-yes, ltZ-yes, ltZ-no}
-use Rattle.integers.specs.Differences.{pp, nn, rep, ringℤ, _⊖_, ⊖-ind}
-use Rattle.integers.specs.Sizes.{absℤ, _within_, near, w-parts, by-abs}
+use lib.Dec.{ltb, leb, ltb→lt, lt→ltb, leb→le, le→leb}
+use lib.IntN.{ℤ, pos, negsuc}
+use lib.Signed.{_≤ℤ_, _<ℤ_, leZ-yes, ltZ-yes}
+use Rattle.integers.specs.Differences.{pp, nn, rep, _⊖_, ⊖-ind}
+use Rattle.integers.specs.Sizes.{absℤ}
 
 pub ≤ℤ-iff : (a b c d : ℕ) → (a ⊖ b ≤ℤ c ⊖ d) ↔ (a + d ≤ c + b)
 ≤ℤ-iff a b c d = (to, from)

@@ -1,6 +1,6 @@
 -- Document 01, "Units and rounding": a fraction is rounded once to the nearest, a half away from zero. `toGrain` is the rounding of every
 -- filter and correction to a grain; `awayFromZero` is that of millionths and whole units. They are one rule today, and nobody relies on that.
-use Prim.Native.Nat.{ℕ, suc, _+_, _*_, _-_, _/_}
+use Prim.Native.Nat.{ℕ, suc, _+_, _*_, _/_}
 use lib.IntN.{ℤ, pos, negsuc, negℤ}
 
 -- n / d to the nearest whole number, a half up

@@ -1,5 +1,5 @@
 -- Sums by index and weighted sums: how large they are, by the sizes of the weights, and how far apart where the values are.
-use mathlib.Core.Path.{_≡_, refl, sym, ap₂, subst, _∙_}
+use mathlib.Core.Path.{_≡_, refl, ap₂, subst, _∙_}
 use Prim.Native.Nat.{ℕ, zero, suc, _+_, _*_, _-_, _<_, _≤_}
 use native.Mathlib.Nat.{le-refl, add-zero, add-suc, le-trans, le-of-eq, add-mul, mul-le-mul-left, mul-le-mul-right}
 use native.Mathlib.Numerals.{add-one}

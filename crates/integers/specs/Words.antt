@@ -1,13 +1,13 @@
 -- Values of an i64 computation. A signed local holds bits, so what a need shows of an intermediate result is `toZ w64 (ofZ w64 ..)`, nested.
 -- `Reads t z B`: the term t of the need is the number z, and z is within B. A proof puts these together as the code puts the operations together.
-use mathlib.Core.Path.{_≡_, refl, sym, ap, ap₂, _∙_, subst}
+use mathlib.Core.Path.{_≡_, refl, sym, ap₂, _∙_, subst}
 use mathlib.Core.Bool.{Bool, true, false, not}
-use Prim.Native.Nat.{ℕ, zero, suc, _+_, _*_, _-_, _/_, _^_, _<_, _≤_}
-use native.Mathlib.Nat.{lt-of-le-of-lt, le-trans, le-of-lt, div-le-self}
+use Prim.Native.Nat.{ℕ, suc, _+_, _*_, _-_, _/_, _^_, _<_, _≤_}
+use native.Mathlib.Nat.{lt-of-le-of-lt, le-trans, div-le-self}
 use native.Mathlib.Omega.{arith}
-use lib.Dec.{T, ltb, ltb→lt, lt→ltb, nleb→lt, le→leb}
-use lib.IntN.{ℤ, pos, negsuc, negℤ, natAbs, _+ℤ_, _-ℤ_, _*ℤ_, +ℤ-idl}
-use lib.Signed.{quotZ, ltZ, leZ, mag, _<ℤ_, _≤ℤ_, ltZ-yes, ltZ-no, leZ-yes, natAbs-le}
+use lib.Dec.{T, ltb, ltb→lt}
+use lib.IntN.{ℤ, pos, negsuc, natAbs, _+ℤ_, _-ℤ_, _*ℤ_}
+use lib.Signed.{quotZ, ltZ, mag, _<ℤ_, _≤ℤ_, ltZ-yes, ltZ-no}
 use mir.Syntax.{w32, w64}
 use mir.Val.{SFits, toZ, ofZ}
 use mir.Facts.{toZ-ofZ}
@@ -43,7 +43,7 @@ abs-quot (negsuc a) (negsuc b) = div-le-self (suc a) (suc b)
 pub i/ : {a b x y : ℤ} {A B : ℕ} → Reads a x A → Reads b y B → Reads (quotZ a b) (quotZ x y) A
 i/ {x = x} {y = y} h k = record { eq = ap₂ quotZ (h .eq) (k .eq); bound = record { abs = le-trans (abs-quot x y) (h .bound .abs) } }
 
--- what an operation asks; its result, stored and read back; 
+-- what an operation asks; its result, stored and read back;
 -- That the bound fits is a test, which computes where the bound is made of literals: `i-fits h tt`
 abbrev pub Room : ℕ → Type 0
 Room B = T (ltb B (2 ^ 63))

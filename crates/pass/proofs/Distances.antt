@@ -1,5 +1,4 @@
 -- A pass, step by step: how many thousandths of a grain each table is from the exact working.
-use mathlib.Core.Path.{_≡_}
 use mathlib.Core.List.{List}
 use Prim.Native.Nat.{ℕ, _+_, _*_, _-_, _≤_}
 use native.Mathlib.Omega.{arith}

@@ -1,18 +1,17 @@
 -- How large the tables of a pass can be, in halves of X's bound: SI1, R1 and M1 twice X, S1 four times, A1 five, T2 six and a half, SI2, R2 and M2
 -- seven and a half, S2 fifteen times.
-use mathlib.Core.Path.{_≡_}
 use mathlib.Core.List.{List}
 use Prim.Native.Nat.{ℕ, _*_, _≤_}
 use native.Mathlib.Omega.{arith}
 use lib.ListN.{length}
 use lib.IntN.{ℤ}
 use Rattle.integers.specs.Lists.{AllWithin}
-use Rattle.filters.specs.Filter.{filter, inside, minus}
+use Rattle.filters.specs.Filter.{filter, inside}
 use Rattle.filters.specs.Tables.{table2x12, table3x3, table3x5, tableHenderson}
 use Rattle.filters.proofs.Rows.{fair2x12, fair3x3, fair3x5, fairHenderson}
 use Rattle.filters.proofs.Largest.{larger, within-pick, within-minus, within-filter, within-inside}
 use Rattle.pass.specs.Steps.{level, T1, SI1, R1, M1, S1, A1, T2, SI2, R2, M2, S2}
-use Rattle.pass.specs.Places.{middle, nearest, copied, widened}
+use Rattle.pass.specs.Places.{middle, nearest, widened}
 use Rattle.pass.specs.Exact.{overHenderson}
 
 pub within-2x12 : {b : ℕ} {x : List ℤ} → AllWithin b x → AllWithin b (inside table2x12 x)

@@ -1,7 +1,6 @@
 -- Document 01, "One pass": steps 1 to 7 on a series X of n grains. T1, SI1, R1 and M1 stand for t from 6 to n - 7: as lists their
 -- place 0 is t = 6, so that a run's first and last value are those of the list.
 use mathlib.Core.List.{List}
-use Prim.Native.Nat.{ℕ}
 use lib.ListN.{length}
 use lib.IntN.{ℤ}
 use Rattle.filters.specs.Filter.{filter, inside, minus, pick}

@@ -1,14 +1,12 @@
 // Document 01, "One pass": steps 1 to 7 on one series, in lent slices.
 ghost use mathlib.Core.Path.{_≡_};
-ghost use mathlib.Core.List.{List};
-ghost use Prim.Native.Nat.{ℕ, _+_, _*_, _-_, _≤_, _<_, min};
+ghost use Prim.Native.Nat.{_+_, _-_, _≤_, _<_};
 ghost use lib.ListN.{length};
-ghost use lib.IntN.{ℤ, pos, _-ℤ_};
-ghost use Rattle.integers.specs.Lists.{_‼_, AllWithin};
-ghost use Rattle.filters.specs.Filter.{filter, inside, minus, pick};
-ghost use Rattle.filters.specs.Tables.{table2x12, tableHenderson};
-ghost use Rattle.filters.specs.Asks.{largest, Minusable};
-ghost use Rattle.pass.specs.Steps.{level, T2, S1, S2};
+ghost use lib.IntN.{_-ℤ_};
+ghost use Rattle.integers.specs.Lists.{_‼_};
+ghost use Rattle.filters.specs.Filter.{filter, minus, pick};
+ghost use Rattle.filters.specs.Tables.{tableHenderson};
+ghost use Rattle.pass.specs.Steps.{T2, S1, S2};
 ghost use Rattle.pass.specs.Places.{nearest, copied, widened};
 ghost use Rattle.pass.specs.Passed.{Passed};
 ghost use Rattle.pass.specs.Asks.{Series, Levels, Lent, Adjustable, Work};

@@ -1,15 +1,14 @@
 -- `decompose::adjusted` meets its contract: each entry below t has its value.
 -- Assumes nothing.
-use Prim.Native.Nat.{ℕ, _≤_, _-_}
-use mathlib.Core.Path.{_≡_, refl, _∙_}
+use Prim.Native.Nat.{_≤_, _-_}
+use mathlib.Core.Path.{_≡_, _∙_}
 use native.Mathlib.Omega.{arith}
 use lib.ListN.{length}
-use lib.IntN.{pos, _*ℤ_}
+use lib.IntN.{pos, _*ℤ_, _-ℤ_}
 use Rattle.integers.specs.Lists.{_‼_}
 use Rattle.integers.specs.Words.{kept}
 use Rattle.refusals.specs.Limits.{unit}
 use Rattle.integers.specs.Filling.{Filled, filled-none, filled-more, filled-tab}
-use lib.IntN.{_-ℤ_}
 use Rattle.decompose.proofs.Series.{less-is}
 use Rattle.decompose.proofs.adjusted.Statement.{statement}
 use Rattle.decompose.proofs.adjusted.Tie as tie

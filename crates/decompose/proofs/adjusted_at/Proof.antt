@@ -1,6 +1,5 @@
 -- `decompose::adjusted_at` meets its contract: both numbers are small enough for their difference to fit.
 -- Assumes nothing.
-use native.Mathlib.Omega.{arith}
 use Rattle.integers.specs.Words.{i-, i-fits, i-kept, i-in, i-call}
 use Rattle.decompose.proofs.Sizes.{grains-within}
 use borrow.Author.Needs.{needs}

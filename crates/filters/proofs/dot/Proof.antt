@@ -1,11 +1,10 @@
 -- `filters::dot` meets its contract: the sum so far is the weighted sum of the first k, and within the sizes of the first k weights times the largest value.
 -- Assumes nothing.
 use Prim.Native.Nat.{ℕ, _≤_, _<_, _*_, _-_, _+_}
-use mathlib.Core.Path.{_≡_, refl, sym, _∙_}
+use mathlib.Core.Path.{_≡_, sym}
 use native.Mathlib.Omega.{arith}
 use lib.Dec.{lt→ltb}
-use lib.ListN.{length}
-use lib.IntN.{ℤ, pos, natAbs, _*ℤ_}
+use lib.IntN.{natAbs}
 use mir.Syntax.{w64}
 use mir.Val.{toZ}
 use Rattle.integers.specs.Words.{Reads, i-lit, i+, i*, i-fits, i-kept, i-in, i≤, i≡}

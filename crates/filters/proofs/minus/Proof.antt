@@ -5,10 +5,9 @@ use Rattle.filters.specs.Filter.{minus}
 use Rattle.integers.specs.Filling.{Filled, filled-none, filled-more, filled-tab}
 use Rattle.integers.specs.Lists.{_‼_}
 use Rattle.integers.specs.Words.{kept}
-use lib.IntN.{_-ℤ_}
-use lib.IntN.{pos}
+use lib.IntN.{_-ℤ_, pos}
 use lib.ListN.{length}
-use mathlib.Core.Path.{_≡_, refl}
+use mathlib.Core.Path.{_≡_}
 use native.Mathlib.Omega.{arith}
 use Rattle.filters.proofs.minus.Statement.{statement}
 use Rattle.filters.proofs.minus.Tie as tie

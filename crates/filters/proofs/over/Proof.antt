@@ -1,9 +1,9 @@
 -- `filters::over` meets its contract: the divisor is cast, and is the number that it was.
 -- Assumes nothing.
-use mathlib.Core.Path.{_≡_, ap, ap₂, _∙_}
+use mathlib.Core.Path.{ap, ap₂, _∙_}
 use native.Mathlib.Omega.{arith}
 use lib.Dec.{lt→ltb}
-use lib.IntN.{ℤ, pos, natAbs}
+use lib.IntN.{pos, natAbs}
 use lib.Signed.{ltZ-yes}
 use borrow.Author.Needs.{needs}
 use mir.Syntax.{w64}

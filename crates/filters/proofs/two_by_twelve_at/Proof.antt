@@ -1,6 +1,5 @@
 -- `filters::two_by_twelve_at` meets its contract: its row is computed to be what the filter asks.
 -- Assumes nothing.
-use mathlib.Core.Path.{_≡_}
 use Rattle.integers.specs.Sums.{sumN}
 use Rattle.integers.specs.Words.{kept}
 use Rattle.filters.specs.Filter.{weightAt}

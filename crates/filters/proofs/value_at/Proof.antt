@@ -1,9 +1,7 @@
 -- `filters::value_at` meets its contract: the row and the window lie within the slices, and the sum is that of the rules.
 -- Assumes nothing.
-use Prim.Native.Nat.{ℕ, _+_, _*_, _-_, _≤_}
+use Prim.Native.Nat.{_+_, _*_, _-_, _≤_}
 use native.Mathlib.Omega.{arith}
-use lib.ListN.{length}
-use lib.IntN.{ℤ}
 use borrow.Author.Needs.{needs}
 use Rattle.integers.specs.Words.{i-call, i-within, kept}
 use Rattle.filters.specs.Filter.{Table}

@@ -1,6 +1,6 @@
 -- `integers::to_grain` meets its contract: both names mean one rule today.
 -- Assumes nothing.
-use mathlib.Core.Path.{_≡_, ap₂, _∙_}
+use mathlib.Core.Path.{ap₂, _∙_}
 use lib.IntN.{ℤ, natAbs}
 use Rattle.integers.specs.Rounding.{awayFromZero, toGrain}
 use native.Mathlib.Omega.{arith}

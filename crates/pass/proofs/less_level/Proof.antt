@@ -1,13 +1,12 @@
 -- `pass::less_level` meets its contract: each entry below t is the difference there.
 -- Assumes nothing.
-use Prim.Native.Nat.{ℕ, _≤_, _-_, _+_}
-use mathlib.Core.Path.{_≡_, refl, ap, sym, _∙_}
+use Prim.Native.Nat.{_≤_, _-_}
+use mathlib.Core.Path.{_≡_, _∙_}
 use native.Mathlib.Omega.{arith}
 use lib.ListN.{length}
 use lib.IntN.{pos, _-ℤ_}
 use Rattle.integers.specs.Lists.{_‼_}
 use Rattle.integers.specs.Words.{kept}
-use Rattle.filters.specs.Filter.{minus, pick}
 use Rattle.pass.specs.Places.{nearest}
 use Rattle.pass.proofs.Places.{less-level-is}
 use Rattle.integers.specs.Filling.{Filled, filled-none, filled-more, filled-tab}

@@ -1,6 +1,6 @@
 -- `pass::less_level_at` meets its contract: both numbers are small enough for their difference to fit.
 -- Assumes nothing.
-use mathlib.Core.Path.{_≡_, ap, _∙_}
+use mathlib.Core.Path.{ap, _∙_}
 use Prim.Native.Nat.{ℕ}
 use lib.IntN.{_-ℤ_}
 use Rattle.integers.specs.Lists.{_‼_}

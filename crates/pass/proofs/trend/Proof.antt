@@ -1,6 +1,6 @@
 -- `pass::trend` meets its contract: a difference, then Henderson.
 -- Assumes nothing.
-use mathlib.Core.Path.{_≡_, ap, _∙_}
+use mathlib.Core.Path.{ap, _∙_}
 use native.Mathlib.Omega.{arith}
 use Rattle.filters.specs.Filter.{filter}
 use Rattle.filters.specs.Tables.{tableHenderson}

@@ -1,10 +1,10 @@
 -- `pass::widen` meets its contract: each entry below t is the middle month's that it copies.
 -- Assumes nothing.
 use Prim.Native.Nat.{ℕ, _≤_, _-_, _+_}
-use mathlib.Core.Path.{_≡_, refl, ap, sym, _∙_}
+use mathlib.Core.Path.{_≡_, refl, ap}
 use native.Mathlib.Omega.{arith}
 use lib.ListN.{length}
-use lib.IntN.{pos, _-ℤ_}
+use lib.IntN.{pos}
 use Rattle.integers.specs.Lists.{_‼_}
 use Rattle.integers.specs.Words.{kept}
 use Rattle.filters.specs.Filter.{pick}
