@@ -15,8 +15,8 @@ use Rattle.refusals.specs.declared.Found.the-variants.{At, Nowhere}
 use Rattle.refusals.specs.First.{firstFailing}
 use Rattle.refusals.specs.FirstLaws.{Passed, passed-none, passed-more, first-here, first-none}
 use Rattle.refusals.specs.Limits.{year}
-use Rattle.desk_file.specs.Bytes.{bytesOf, word, array}
-use Rattle.desk_file.specs.File.{figureAt, weightAt, figuresAt, weightsAt, headerLength, weightsStart, fileLength, countIn, startIn, seriesIn, series, SeriesWithWeights, header, figuresBytes, weightsBytes, fileBytes}
+use Rattle.desk_file.specs.Bytes.{bytesOf, numberAt, word, array}
+use Rattle.desk_file.specs.File.{figureAt, weightAt, figuresAt, weightsAt, headerLength, weightsStart, fileLength, countIn, startIn, periodIn, seriesIn, series, SeriesWithWeights, header, figuresBytes, weightsBytes, fileBytes}
 
 -- ---- read by place
 pub length-figures : (file : List ℕ) (from n : ℕ) → length (figuresAt file from n) ≡ n
@@ -56,6 +56,15 @@ series-weights file n e = rw e
 pub series-months : (file : List ℕ) (n : ℕ) → countIn file ≡ n → (length (seriesIn file .figures) ≡ n) × (length (seriesIn file .weights) ≡ n)
 unfolding seriesIn
 series-months file n e = (length-figures file headerLength (countIn file) ∙ e, length-weights file (weightsStart (countIn file)) (countIn file) ∙ e)
+
+-- the start month and the period are one byte each
+pub start-byte : (file : List ℕ) → startIn file ≡ getD file 2 0
+unfolding startIn numberAt
+start-byte file = omega arith
+
+pub period-byte : (file : List ℕ) → periodIn file ≡ getD file 3 0
+unfolding periodIn numberAt
+period-byte file = omega arith
 
 pub series-start : (file : List ℕ) → seriesIn file .start ≡ startIn file
 unfolding seriesIn
@@ -109,9 +118,10 @@ pub length-weights-bytes : (weights : List ℕ) → length (weightsBytes weights
 unfolding weightsBytes
 length-weights-bytes weights = length-array 2 (λ w. w) weights
 
-pub length-file : (s : SeriesWithWeights) → length (s .weights) ≡ length (s .figures) → length (fileBytes s) ≡ fileLength (length (s .figures))
+-- "Length 4+6n": the bytes of a series with weights are as many as `fileLength` says
+pub file-length : (s : SeriesWithWeights) → length (s .weights) ≡ length (s .figures) → length (fileBytes s) ≡ fileLength (length (s .figures))
 unfolding fileBytes
-length-file s e =
+file-length s e =
     let h = header (length (s .figures)) (s .start) year in
     let f = figuresBytes (s .figures) in
     let w = weightsBytes (s .weights) in
@@ -129,7 +139,7 @@ stored s out e room =
     let f = figuresBytes (s .figures) in
     let w = weightsBytes (s .weights) in
     let front : length h ≡ headerLength = length-header n (s .start) year in
-    let l : 0 + length (h ++ f ++ w) ≡ fileLength n = omega (arith, length-file s e) in
+    let l : 0 + length (h ++ f ++ w) ≡ fileLength n = omega (arith, file-length s e) in
     rw (← sets-append out 0 headerLength h f (omega arith))
     (sym (sets-append out 0 (weightsStart n) (h ++ f) w (omega (arith, length-append h f, length-figures-bytes (s .figures))))
     ∙ sets-eq (h ++ f ++ w) out 0 (omega arith)

@@ -15,7 +15,7 @@ use Rattle.integers.specs.Filling.{tab-same}
 use Rattle.refusals.specs.Limits.{year}
 use Rattle.desk_file.specs.Bytes.{bytesOf, numberAt, word, signed, array}
 use Rattle.desk_file.specs.File.{SeriesWithWeights, header, headerLength, weightsStart, fileLength, figuresBytes, weightsBytes, fileBytes, countIn, startIn, periodIn, figureAt, weightAt, figuresAt, weightsAt, seriesIn}
-use Rattle.desk_file.specs.RoundTrips.{AreBytes, Storable}
+use Rattle.desk_file.specs.RoundTrips.{AreBytes, FourBytes, Storable}
 use Rattle.desk_file.proofs.Numbers.{word-fits, signed-low, signed-high, lowered}
 use Rattle.desk_file.proofs.Arrays.{length-figures, length-bytes, length-header, length-figures-bytes}
 
@@ -53,6 +53,10 @@ bytes-back file b at (suc width) h =
     rw (m, d, drop-cons file at 0 l, bytes-back file b (suc at) width (omega arith))
 
 -- ---- signed numbers
+four-bytes : (x : ℤ) → FourBytes x → SFits w32 x
+four-bytes (pos n) h = record { sfits = h }
+four-bytes (negsuc k) h = record { sfits = h }
+
 pub signed-word : (x : ℤ) → SFits w32 x → signed (word x) ≡ x
 unfolding word
 signed-word (pos n) f = signed-low n (omega (arith, f .sfits))
@@ -109,16 +113,14 @@ module _ (s : SeriesWithWeights) (a : Storable s) where
 
   pub count-back : countIn (fileBytes s) ≡ months
   unfolding countIn fileBytes header
-  count-back =
-      rw (append-assoc (bytesOf 2 months ++ (s .start ∷ year ∷ [])) (figuresBytes (s .figures)) (weightsBytes (s .weights)), append-assoc (bytesOf 2 months) (s .start ∷ year ∷ []) (figuresBytes (s .figures) ++ weightsBytes (s .weights)))
-      (number-back 2 months _ (a .count))
+  count-back = simp append-assoc (number-back 2 months _ (a .count))
 
   pub start-back : startIn (fileBytes s) ≡ s .start
-  unfolding startIn fileBytes header bytesOf
-  start-back = refl
+  unfolding startIn fileBytes header bytesOf numberAt
+  start-back = omega (arith, a .start)
 
   pub period-back : periodIn (fileBytes s) ≡ year
-  unfolding periodIn fileBytes header bytesOf
+  unfolding periodIn fileBytes header bytesOf numberAt
   period-back = refl
 
   figure-back : (t : ℕ) → t < months → s .figures ‼ t ≡ figureAt (fileBytes s) headerLength t
@@ -127,8 +129,9 @@ module _ (s : SeriesWithWeights) (a : Storable s) where
       let f = array 4 word (s .figures) in
       let w = weightsBytes (s .weights) in
       let x = s .figures ‼ t in
+      let fits : SFits w32 x = four-bytes x (a .figuresFit t h) in
       let e : headerLength + 4 * t ≡ length sizes + 4 * t = omega (arith, length-header months (s .start) year) in
-      sym (rw (append-assoc sizes f w, e, number-past sizes (f ++ w) (4 * t) 4, array-back (pos 0) 4 word (s .figures) w t h (word-fits x (a .figuresFit t h))) (signed-word x (a .figuresFit t h)))
+      sym (rw (append-assoc sizes f w, e, number-past sizes (f ++ w) (4 * t) 4, array-back (pos 0) 4 word (s .figures) w t h (word-fits x fits)) (signed-word x fits))
 
   weight-back : (t : ℕ) → t < length (s .weights) → getD (s .weights) t 0 ≡ weightAt (fileBytes s) (weightsStart months) t
   unfolding weightAt fileBytes weightsBytes
@@ -156,9 +159,9 @@ number-small file b at zero h = omega (arith, pow-zero 256)
 number-small file b at (suc width) h = omega (arith, pow-succ' 256 width, b .each at (omega arith), number-small file b (suc at) width (omega arith))
 
 module _ (file : List ℕ) (b : AreBytes file) where
-  sizes-back : periodIn file ≡ year → 4 ≤ length file → header (countIn file) (startIn file) year ≡ take 4 file
+  sizes-back : 4 ≤ length file → header (countIn file) (startIn file) (periodIn file) ≡ take 4 file
   unfolding header countIn startIn periodIn
-  sizes-back p h = rw (bytes-back file b 0 2 (omega arith), take-add 2 2 file, drop-cons file 2 0 (omega arith), drop-cons file 3 0 (omega arith), p)
+  sizes-back h = rw (bytes-back file b 0 2 (omega arith), bytes-back file b 2 1 (omega arith), bytes-back file b 3 1 (omega arith), ← take-add 2 1 file, ← take-add 3 1 file)
 
   figures-back : (from n : ℕ) → from + 4 * n ≤ length file → figuresBytes (figuresAt file from n) ≡ take (4 * n) (drop from file)
   unfolding figuresBytes figuresAt figureAt
@@ -175,7 +178,7 @@ module _ (file : List ℕ) (b : AreBytes file) where
   meaning-back n c p l =
       rw (
         length-figures file headerLength (countIn file),
-        sizes-back p (omega arith),
+        ap (header (countIn file) (startIn file)) (sym p) ∙ sizes-back (omega arith),
         ← c,
         figures-back headerLength n (omega arith),
         weights-back (weightsStart n) n (omega arith),

@@ -6,42 +6,60 @@ use native.Mathlib.Omega.{arith}
 use lib.IntN.{ℤ, pos, negsuc, natAbs}
 use lib.ListN.{length, take, drop}
 use lib.Seq.{take-at}
-use mir.Syntax.{w32}
-use mir.Val.{SFits}
+use Rattle.integers.specs.Lists.{_‼_}
 use Rattle.refusals.specs.declared.Found.the-variants.{Nowhere}
 use Rattle.refusals.specs.Limits.{largestFigure}
 use Rattle.refusals.specs.First.{firstOutside, firstAbove}
 use Rattle.refusals.specs.FirstLaws.{all-passed}
-use Rattle.refusals.specs.InsideLaws.{figure-inside, weight-inside}
+use Rattle.refusals.specs.InsideLaws.{start-inside, figure-inside, weight-inside}
 use Rattle.refusals.specs.Sheet.{success}
 use Rattle.desk_file.specs.declared.Reading.{Reading}
 use Rattle.desk_file.specs.declared.Writing.{Writing}
 use Rattle.desk_file.specs.File.{SeriesWithWeights, series, fileBytes, seriesIn}
-use Rattle.desk_file.specs.ReadFile.{accepted, readSays, readAnswer, ReadDone}
+use Rattle.desk_file.specs.ReadFile.{Accepted, accepted, readSays, readAnswer, ReadDone}
 use Rattle.desk_file.specs.WriteFile.{writeSays, writeAnswer, WriteDone}
-use Rattle.desk_file.specs.RoundTrips.{AreBytes, Storable, ReadAgain, WrittenAgain}
-use Rattle.desk_file.proofs.Arrays.{length-file, series-months, series-start, series-whole}
+use Rattle.desk_file.specs.RoundTrips.{AreBytes, FourBytes, Storable, ReadAgain, WrittenAgain}
+use Rattle.desk_file.proofs.Arrays.{file-length, series-months, series-start, series-whole}
 use Rattle.desk_file.proofs.ReadAnswers.{Readable, readable, reads}
 use Rattle.desk_file.proofs.WriteAnswers.{Writable, writable, writes}
 use Rattle.desk_file.proofs.Decoding.{count-back, start-back, period-back, file-back, meaning-back}
 
--- two series with weights that give the same bytes are the same
+-- the bytes of what an accepted byte string means are that byte string
+meant : (file : List ℕ) (nf nw : ℕ) (a : Accepted) → AreBytes file → readAnswer file nf nw ≡ success a → fileBytes (seriesIn file) ≡ file
+meant file nf nw a b h =
+    let ok = readable file nf nw (a .count) (a .start) h in
+    meaning-back file b (a .count) (ok .count) (ok .period) (ok .size)
+
+-- "There is one byte string for each series with weights": two accepted byte strings that mean the same are the same
+pub one-file : (file file′ : List ℕ) (figuresRoom weightsRoom figuresRoom′ weightsRoom′ : ℕ) (a a′ : Accepted)
+    → AreBytes file
+    → AreBytes file′
+    → readAnswer file figuresRoom weightsRoom ≡ success a
+    → readAnswer file′ figuresRoom′ weightsRoom′ ≡ success a′
+    → seriesIn file ≡ seriesIn file′
+    → file ≡ file′
+one-file file file′ _ _ _ _ a a′ b b′ h h′ e = sym (meant file _ _ a b h) ∙ ap fileBytes e ∙ meant file′ _ _ a′ b′ h′
+
+-- and one series with weights for each byte string: two that give the same bytes are the same
 pub same-bytes : (s s′ : SeriesWithWeights) → Storable s → Storable s′ → fileBytes s ≡ fileBytes s′ → s ≡ s′
 same-bytes s s′ a a′ e = sym (file-back s a) ∙ ap seriesIn e ∙ file-back s′ a′
 
--- what writing accepts can be stored
-fits : (z : ℤ) → natAbs z ≤ largestFigure → SFits w32 z
-fits (pos n) h = record { sfits = omega arith }
-fits (negsuc k) h = record { sfits = omega arith }
+fits : (z : ℤ) → natAbs z ≤ largestFigure → FourBytes z
+fits (pos n) h = omega arith
+fits (negsuc k) h = omega arith
 
-pub storable : {s : SeriesWithWeights} {room k : ℕ} → Writable s room k → Storable s
+-- what writing accepts can be stored
+pub storable : (s : SeriesWithWeights) (room k : ℕ) → writeAnswer s room ≡ success k → Storable s
 unfolding firstOutside firstAbove
-storable {s} w = record {
-  count = omega (arith, w .most);
-  same = w .same;
-  figuresFit = λ t h. fits _ (figure-inside _ (all-passed {d = pos 0} (w .figuresFit) .each t h));
-  weightsFit = λ t h. omega (arith, weight-inside _ (all-passed {d = 0} (w .weightsFit) .each t h));
-}
+storable s room k e =
+    let w = writable s room k e in
+    record {
+      count = omega (arith, w .most);
+      start = omega (arith, start-inside (s .start) (w .startFits) .1);
+      same = w .same;
+      figuresFit = λ t h. fits (s .figures ‼ t) (figure-inside _ (all-passed {d = pos 0} (w .figuresFit) .each t h));
+      weightsFit = λ t h. omega (arith, weight-inside _ (all-passed {d = 0} (w .weightsFit) .each t h));
+    }
 
 -- what `write` writes, `read` reads again unchanged
 pub read-again : (s : SeriesWithWeights) (out₀ out : List ℕ) (q : Writing) (k : ℕ) (figures₀ figures : List ℤ) (weights₀ weights : List ℕ) (r : Reading)
@@ -54,9 +72,9 @@ pub read-again : (s : SeriesWithWeights) (out₀ out : List ℕ) (q : Writing) (
 read-again s out₀ out q k figures₀ figures weights₀ weights r d ha hf hw e =
     let written : writeAnswer s (length out₀) ≡ success k = sym (d .answer) ∙ ha in
     let w = writable s (length out₀) k written in
-    let a = storable w in
+    let a = storable s (length out₀) k written in
     let same : out ≡ fileBytes s ++ drop k out₀ = rw written at (d .outLeft) in
-    let file : take k out ≡ fileBytes s = ap (take k) same ∙ take-at (fileBytes s) (drop k out₀) k (length-file s (w .same) ∙ sym (w .long)) in
+    let file : take k out ≡ fileBytes s = ap (take k) same ∙ take-at (fileBytes s) (drop k out₀) k (file-length s (w .same) ∙ sym (w .long)) in
     let e′ = subst (λ (f : List ℕ). ReadDone f figures₀ weights₀ r figures weights) file e in
     let figuresFit : firstOutside (seriesIn (fileBytes s) .figures) ≡ Nowhere = rw (file-back s a) (w .figuresFit) in
     let weightsFit : firstAbove (seriesIn (fileBytes s) .weights) ≡ Nowhere = rw (file-back s a) (w .weightsFit) in
@@ -67,7 +85,7 @@ read-again s out₀ out q k figures₀ figures weights₀ weights r d ha hf hw e
       most = w .most;
       startFits = w .startFits;
       period = period-back s a;
-      size = length-file s (w .same);
+      size = file-length s (w .same);
       figuresRoom = hf;
       weightsRoom = hw;
       figuresFit = figuresFit;
@@ -113,5 +131,5 @@ write-again file figures₀ figures weights₀ weights q n start out₀ out r b 
     let answer = sym (writes fine) in
     record {
       answer = e′ .answer ∙ answer;
-      outLeft = rw (answer, meaning-back file b n (ok .count) (ok .period) (ok .size)) at (e′ .outLeft);
+      outLeft = rw (answer, meant file (length figures₀) (length weights₀) _ b told) at (e′ .outLeft);
     }

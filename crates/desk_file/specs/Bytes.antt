@@ -7,7 +7,7 @@ use lib.Dec.{ltb}
 use lib.IntN.{ℤ, pos, negsuc, _-ℤ_}
 use lib.ListN.{getD}
 
--- a number in so many bytes
+-- a number in so many bytes: the width first, then the number; what does not fit is dropped
 unfoldable pub bytesOf : ℕ → ℕ → List ℕ
 bytesOf zero number = []
 bytesOf (suc width) number = number % 256 ∷ bytesOf width (number / 256)
@@ -22,7 +22,7 @@ unfoldable pub word : ℤ → ℕ
 word (pos n) = n
 word (negsuc k) = 2 ^ 32 - suc k
 
--- and read with 2 ^ 32 taken off again
+-- and read again: from 2 ^ 31 on 2 ^ 32 is taken off, a number below 2 ^ 31 stays
 unfoldable pub signed : ℕ → ℤ
 signed w = cond (ltb w (2 ^ 31)) (pos w) (pos w -ℤ pos (2 ^ 32))
 

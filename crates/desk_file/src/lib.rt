@@ -204,7 +204,7 @@ fn read_answer(file: &[u8], figures: &[i32], weights: &[u16]) -> Reading
     Reading::Series { count: n, start }
 }
 
-// Reads a desk file: the first n places of both slices are filled, the rest stays. The weights start in the middle, where the figures end.
+// Reads a desk file: the first n places of both slices are filled, the rest stays. The weights start where the figures end.
 pub fn read(file: &[u8], figures: &mut [i32], weights: &mut [u16]) -> Reading
     ensures { λ r. ⌜ ReadDone (now (file .entry)) (now (figures .entry)) (now (weights .entry)) r (now (figures .exit)) (now (weights .exit)) ⌝ }
 {
@@ -212,9 +212,9 @@ pub fn read(file: &[u8], figures: &mut [i32], weights: &mut [u16]) -> Reading
     let Reading::Series { count, start: _ } = answer else {
         return answer;
     };
-    let middle = HEADER + FIGURE * count;
+    let weights_start = HEADER + FIGURE * count;
     get_figures(file, HEADER, count, figures);
-    get_weights(file, middle, count, weights);
+    get_weights(file, weights_start, count, weights);
     answer
 }
 
@@ -290,9 +290,9 @@ pub fn write(figures: &[i32], start: u8, weights: &[u16], out: &mut [u8]) -> Wri
         return answer;
     };
     let n = figures.len();
-    let middle = HEADER + FIGURE * n;
+    let weights_start = HEADER + FIGURE * n;
     put_header(out, n, start);
     put_figures(out, HEADER, figures);
-    put_weights(out, middle, weights);
+    put_weights(out, weights_start, weights);
     answer
 }

@@ -1,5 +1,5 @@
--- Document 01, "Refusal sheet": the number and the place of each row. The promises of the public entry
--- points speak of a refusal through `row`.
+-- Document 01, "Refusal sheet": the number and the place of each row. The promises of the entry points say `refusal number place`;
+-- what the program answers is turned into that by `refusalOf`.
 use Prim.Native.Nat.{ℕ}
 use Rattle.refusals.specs.declared.Refusal.{Refusal}
 use Rattle.refusals.specs.declared.Refusal.the-variants.{TooShort, TooLong, BadStart, WrongLength, FigureOutside, EmptyGroup, NoHeader, BadPeriod, BadFileLength, WeightAbove}
@@ -34,5 +34,6 @@ pub data Answer (A : Type 0) : Type 0 where
   success : A → Answer A
   refusal : (number place : ℕ) → Answer A
 
+-- a refusal of the program, as the sheet's row has it
 abbrev pub refusalOf : {A : Type 0} → Refusal → Answer A
 refusalOf r = refusal (row r .number) (row r .place)

@@ -1,5 +1,8 @@
 -- `desk_file::put_header` meets its contract: the count, then the two bytes after it.
 -- Assumes nothing.
+use Prim.Native.Nat.{_%_}
+use mathlib.Core.Path.{_≡_}
+use native.Mathlib.Omega.{arith}
 use borrow.Author.Needs.{needs}
 use Rattle.desk_file.specs.Bytes.{bytesOf}
 use Rattle.desk_file.specs.File.{header}
@@ -23,7 +26,10 @@ same-length c = search needs
 
 returns : tie.Need-returns
 unfolding header bytesOf
-returns c = rw (c .before .before .put-number .ensures)
+returns c =
+    let s = c .before .before .before .before .before in
+    let small : s .args .start % 256 ≡ s .args .start = omega arith in
+    rw (c .before .before .put-number .ensures, small)
 
 pub put-header-spec : {M : Type 1} → statement M
 put-header-spec =

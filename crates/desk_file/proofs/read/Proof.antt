@@ -41,11 +41,11 @@ returns c =
     let a = c .before .before in
     read-refused (from a .args .file .now) (from a .args .figures .now) (from a .args .weights .now) (a .read-answer .result) _ (a .read-answer .ensures) (c .enum-told .given .1)
 
-mul-middle : tie.Need-mul-middle
-mul-middle c = omega (arith, facts c .most)
+mul-weights-start : tie.Need-mul-weights-start
+mul-weights-start c = omega (arith, facts c .most)
 
-add-middle : tie.Need-add-middle
-add-middle c = omega (arith, facts c .most)
+add-weights-start : tie.Need-add-weights-start
+add-weights-start c = omega (arith, facts c .most)
 
 get-figures-requires : tie.Need-get-figures-requires
 get-figures-requires c κs = let f = facts (c .before) in (omega (arith, f .size), f .figuresRoom)
@@ -74,8 +74,8 @@ read-spec =
     same-length
     same-length-2
     returns
-    mul-middle
-    add-middle
+    mul-weights-start
+    add-weights-start
     get-figures-requires
     get-weights-requires
     same-length-3

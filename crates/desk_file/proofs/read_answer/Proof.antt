@@ -12,8 +12,8 @@ use Rattle.refusals.specs.declared.Refusal.the-variants.{TooShort, TooLong, Bad
 use Rattle.refusals.specs.First.{firstOutside, firstAbove}
 use Rattle.refusals.specs.Limits.{leastMonths, mostMonths, year}
 use Rattle.refusals.specs.declared.Found.the-variants.{Nowhere}
-use Rattle.desk_file.specs.File.{headerLength, fileLength, countIn, startIn, periodIn, seriesIn}
-use Rattle.desk_file.proofs.Arrays.{series-figures, series-weights}
+use Rattle.desk_file.specs.File.{headerLength, fileLength, countIn, periodIn, seriesIn}
+use Rattle.desk_file.proofs.Arrays.{series-figures, series-weights, start-byte, period-byte}
 use Rattle.refusals.specs.Checks.{Check, Before, one-more}
 use Rattle.desk_file.proofs.ReadAnswers.{checks, refused-at, figure-refused, weight-refused, all-fit}
 use Rattle.desk_file.proofs.read_answer.Statement.{statement}
@@ -71,12 +71,10 @@ before3 c =
     one-more (these (from2 (c .before))) 2 (before2 (c .before)) (le-ltb mostMonths (countIn (file (from2 (c .before)))) (omega (arith, counted k)))
 
 before4 : (c : tie.Else4) → Before 4 (these (from4 c))
-unfolding startIn
-before4 c = one-more (these (from4 c)) 3 (before3 (c .before .before)) (sym (c .before .start-outside .ensures) ∙ c .if4 .left)
+before4 c = one-more (these (from4 c)) 3 (before3 (c .before .before)) (rw (start-byte (file (from4 c))) (sym (c .before .start-outside .ensures) ∙ c .if4 .left))
 
 before5 : (c : tie.Else5) → Before 5 (these (from5 c))
-unfolding periodIn
-before5 c = one-more (these (from5 c)) 4 (before4 (c .before)) (ap not (eq-eqb (periodIn (file (from5 c))) year (c .if5 .left)))
+before5 c = one-more (these (from5 c)) 4 (before4 (c .before)) (ap not (eq-eqb (periodIn (file (from5 c))) year (period-byte (file (from5 c)) ∙ c .if5 .left)))
 
 before6 : (c : tie.Else6) → Before 6 (these (from5 (c .before)))
 before6 c =
@@ -132,16 +130,14 @@ start-outside-requires : tie.Need-start-outside-requires
 start-outside-requires c κs = search needs
 
 returns-4 : tie.Need-returns-4
-unfolding startIn
 returns-4 c =
     let s = from2 (c .before .before .before) in
-    refused-at (file s) (figures s) (weights s) 3 BadStart (before3 (c .before .before)) refl (sym (c .before .start-outside .ensures) ∙ c .if4 .taken)
+    refused-at (file s) (figures s) (weights s) 3 BadStart (before3 (c .before .before)) refl (rw (start-byte (file s)) (sym (c .before .start-outside .ensures) ∙ c .if4 .taken))
 
 returns-5 : tie.Need-returns-5
-unfolding periodIn
 returns-5 c =
     let s = from4 (c .before) in
-    refused-at (file s) (figures s) (weights s) 4 BadPeriod (before4 (c .before)) refl (ap not (ne-eqb (periodIn (file s)) year (c .if5 .taken)))
+    refused-at (file s) (figures s) (weights s) 4 BadPeriod (before4 (c .before)) refl (ap not (ne-eqb (periodIn (file s)) year (λ e. c .if5 .taken (sym (period-byte (file s)) ∙ e))))
 
 returns-6 : tie.Need-returns-6
 returns-6 c =
@@ -213,12 +209,11 @@ enum-told-2 : tie.Need-enum-told-2
 enum-told-2 c = search needs
 
 returns-11 : tie.Need-returns-11
-unfolding startIn
 returns-11 c =
     let w = c .before .before in
     let f = w .before .before .before in
     let s = from5 (last5 f) in
-    rw (← counted5 (last5 f)) (all-fit (file s) (figures s) (weights s) (before8 (f .before)) (inside (w .before)) (sym (searched2 w) ∙ c .enum-told2 .given .1))
+    rw (← counted5 (last5 f), ← start-byte (file s)) (all-fit (file s) (figures s) (weights s) (before8 (f .before)) (inside (w .before)) (sym (searched2 w) ∙ c .enum-told2 .given .1))
 
 pub read-answer-spec : {M : Type 1} → statement M
 read-answer-spec =

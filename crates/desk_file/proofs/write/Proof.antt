@@ -41,11 +41,11 @@ returns c =
     let a = c .before .before in
     write-refused (lent (from a)) (from a .args .out .now) (a .write-answer .result) _ (a .write-answer .ensures) (c .enum-told2 .given .1)
 
-mul-middle : tie.Need-mul-middle
-mul-middle c = search needs
+mul-weights-start : tie.Need-mul-weights-start
+mul-weights-start c = search needs
 
-add-middle : tie.Need-add-middle
-add-middle c = search needs
+add-weights-start : tie.Need-add-weights-start
+add-weights-start c = search needs
 
 put-header-requires : tie.Need-put-header-requires
 put-header-requires c κs = let f = facts (c .before) in (omega (arith, f .enough), f .most)
@@ -78,8 +78,8 @@ write-spec =
     enum-told-2
     same-length
     returns
-    mul-middle
-    add-middle
+    mul-weights-start
+    add-weights-start
     put-header-requires
     put-figures-requires
     put-weights-requires

@@ -1,0 +1,2 @@
+-- What callers in other languages are promised.
+pub mod Numbers

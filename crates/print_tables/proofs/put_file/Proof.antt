@@ -1,0 +1,66 @@
+-- `print_tables::put_file` meets its contract: the line of a refusal, or the text of the series that was read.
+-- Assumes nothing.
+use mathlib.Core.Path.{refl, sym}
+use native.Mathlib.Omega.{arith}
+use Rattle.print_tables.specs.Storing.{stored-eq}
+use Rattle.print_tables.proofs.PrintLaws.{unread-printed, figures-room, months-fit, months-read, series-printed}
+use borrow.Author.Needs.{needs}
+use Rattle.print_tables.proofs.put_file.Statement.{statement}
+use Rattle.print_tables.proofs.put_file.Tie as tie
+
+slice-aggregate-read : tie.Need-slice-aggregate-read
+slice-aggregate-read c = search needs
+
+slice-aggregate-read-2 : tie.Need-slice-aggregate-read-2
+slice-aggregate-read-2 c = search needs
+
+read-requires : tie.Need-read-requires
+read-requires c κs = search needs
+
+enum-known-answer : tie.Need-enum-known-answer
+enum-known-answer c = search needs
+
+enum-told : tie.Need-enum-told
+enum-told c = search needs
+
+put-unread-requires : tie.Need-put-unread-requires
+put-unread-requires c κs = search needs
+
+same-length : tie.Need-same-length
+same-length c = search needs
+
+returns : tie.Need-returns
+returns c = stored-eq (unread-printed (c .before .before .before .before .before .before .before .before .read .ensures) refl refl _ (c .before .before .before .before .enum-told .given .1)) (c .before .before .put-unread .ensures)
+
+array-share-prefix-figures : tie.Need-array-share-prefix-figures
+array-share-prefix-figures c = figures-room (c .before .before .before .before .before .before .read .ensures) refl refl _ _ (c .before .before .answer .given .1)
+
+slice-aggregate-put-series : tie.Need-slice-aggregate-put-series
+slice-aggregate-put-series c = sym (months-read (c .before .before .before .before .before .before .before .read .ensures) refl refl _ _ (c .before .before .before .answer .given .1))
+
+put-series-requires : tie.Need-put-series-requires
+put-series-requires c κs = (c .before .before .before .before .before .before .before .before .before .before .before .before .pre, omega (arith, months-read (c .before .before .before .before .before .before .before .read .ensures) refl refl _ _ (c .before .before .before .answer .given .1), months-fit (c .before .before .before .before .before .before .before .read .ensures) refl refl _ _ (c .before .before .before .answer .given .1)))
+
+same-length-2 : tie.Need-same-length-2
+same-length-2 c = search needs
+
+returns-2 : tie.Need-returns-2
+returns-2 c = stored-eq (series-printed (c .before .before .before .before .before .before .before .before .before .before .read .ensures) refl refl _ _ (c .before .before .before .before .before .before .answer .given .1)) (c .before .before .put-series .ensures)
+
+pub put-file-spec : {M : Type 1} → statement M
+put-file-spec =
+    tie.close
+    (tie.spec
+    slice-aggregate-read
+    slice-aggregate-read-2
+    read-requires
+    enum-known-answer
+    enum-told
+    put-unread-requires
+    same-length
+    returns
+    array-share-prefix-figures
+    slice-aggregate-put-series
+    put-series-requires
+    same-length-2
+    returns-2)

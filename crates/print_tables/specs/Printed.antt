@@ -1,0 +1,43 @@
+-- Document 01, "The printing program": what is printed for a desk file, by what reading and decomposing answer.
+use Prim.Native.Nat.{ℕ}
+use mathlib.Core.Bool.{cond}
+use mathlib.Core.List.{List, []}
+use lib.IntN.{ℤ}
+use lib.ListN.{length}
+use Rattle.refusals.specs.Limits.{mostMonths}
+use Rattle.refusals.specs.Sheet.{Answer, success, refusal}
+use Rattle.desk_file.specs.File.{seriesIn}
+use Rattle.desk_file.specs.ReadFile.{Accepted, readAnswer}
+use Rattle.decompose.specs.declared.Lengths.{Lengths}
+use Rattle.decompose.specs.Tables.{C17, D10, D11, D12, D13}
+use Rattle.decompose.specs.Promise.{checked, groupEmptied, scratchFor}
+use Rattle.print_tables.specs.Text.{refusedLine, tablesText}
+
+-- the slices lent for n months: each n long, the scratch long enough for the longest series
+abbrev pub lentFor : ℕ → Lengths
+lentFor n = record { d10 = n; d11 = n; d12 = n; d13 = n; b17 = n; c17 = n; scratch = scratchFor mostMonths }
+
+-- what decomposing answers then
+unfoldable pub seriesAnswer : ℕ → List ℤ → Answer Unit
+seriesAnswer start figures = checked start figures (lentFor (length figures)) (cond (groupEmptied start figures) (refusal 6 0) (success tt))
+
+-- "a refusal, decomposing's too, prints `refused`, number and place on one line, and nothing else"
+unfoldable pub decomposedText : Answer Unit → ℕ → List ℤ → List ℕ
+decomposedText (success _) start figures = tablesText figures (D10 start figures) (D11 start figures) (D12 start figures) (D13 start figures) (C17 start figures) start
+decomposedText (refusal number place) start figures = refusedLine number place
+
+unfoldable pub seriesText : ℕ → List ℤ → List ℕ
+seriesText start figures = decomposedText (seriesAnswer start figures) start figures
+
+-- a refusal by the reader, and nothing for an accepted file
+unfoldable pub unreadText : Answer Accepted → List ℕ
+unreadText (success _) = []
+unreadText (refusal number place) = refusedLine number place
+
+-- "Otherwise the file's weights are ignored and the series decomposed."
+unfoldable pub readText : Answer Accepted → List ℕ → List ℕ
+readText (success a) file = seriesText (a .start) (seriesIn file .figures)
+readText (refusal number place) file = refusedLine number place
+
+unfoldable pub printed : List ℕ → List ℕ
+printed file = readText (readAnswer file mostMonths mostMonths) file

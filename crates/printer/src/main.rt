@@ -1,0 +1,4 @@
+// Prints the tables of the desk file in standard input.
+fn main() {
+    print_tables::run();
+}

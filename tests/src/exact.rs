@@ -1,0 +1,209 @@
+//! The exact working: the same steps with every value kept as a fraction.
+//! It is given the original series and the corrected series in grains and
+//! calls none of the rounded steps.
+
+use crate::calendar::{labels, run};
+use crate::fraction::Fraction;
+use crate::rows::{henderson_at, three_by_five, three_by_three};
+use std::cmp::Ordering;
+use std::collections::BTreeMap;
+
+/// A table of fractions by month.
+type ByMonth = BTreeMap<usize, Fraction>;
+
+fn from_grains(grains: &[i64]) -> ByMonth {
+    grains.iter().enumerate().map(|(t, &g)| (t, Fraction::whole(i128::from(g)))).collect()
+}
+
+fn difference(a: &ByMonth, b: &ByMonth) -> ByMonth {
+    let mut out = ByMonth::new();
+    for (t, left) in a {
+        if let Some(right) = b.get(t) {
+            out.insert(*t, left.less(right));
+        }
+    }
+    out
+}
+
+/// 2×12 wherever the table has the six months before and the six after.
+fn two_by_twelve(table: &ByMonth) -> ByMonth {
+    let mut out = ByMonth::new();
+    for &t in table.keys() {
+        if t < 6 {
+            continue;
+        }
+        let mut terms = Vec::new();
+        for s in t - 6..=t + 6 {
+            if let Some(value) = table.get(&s) {
+                let weight = if s + 6 == t || s == t + 6 { 1 } else { 2 };
+                terms.push((weight, value));
+            }
+        }
+        if terms.len() == 13 {
+            out.insert(t, Fraction::weighted_sum(&terms, 24));
+        }
+    }
+    out
+}
+
+fn over_runs(table: &ByMonth, row: fn(usize, usize) -> Vec<i128>, reach: usize, divisor: i128) -> ByMonth {
+    let mut out = ByMonth::new();
+    let (Some(&first), Some(&last)) = (table.keys().next(), table.keys().next_back()) else {
+        return out;
+    };
+    let labels = labels(1, last + 1);
+    for month in 1..=12 {
+        let places = run(&labels, month, first, last);
+        for (index, &t) in places.iter().enumerate() {
+            let from = index.saturating_sub(reach);
+            let to = (index + reach).min(places.len() - 1);
+            let weights = row(index - from, to - index);
+            let terms: Vec<(i128, &Fraction)> =
+                weights.iter().copied().zip(places[from..=to].iter().map(|s| &table[s])).collect();
+            assert_eq!(terms.len(), weights.len());
+            out.insert(t, Fraction::weighted_sum(&terms, divisor));
+        }
+    }
+    out
+}
+
+fn henderson(table: &ByMonth) -> ByMonth {
+    let n = table.len();
+    let mut out = ByMonth::new();
+    for t in 0..n {
+        let row = henderson_at(t, n);
+        let terms: Vec<(i128, &Fraction)> =
+            row.weights.iter().enumerate().map(|(index, &weight)| (weight, &table[&(row.first + index)])).collect();
+        out.insert(t, Fraction::weighted_sum(&terms, row.divisor));
+    }
+    out
+}
+
+/// The exact second trend and seasonal of one pass.
+#[derive(Clone, Debug)]
+pub struct ExactPass {
+    pub t2: Vec<Fraction>,
+    pub s2: Vec<Fraction>,
+}
+
+fn listed(table: ByMonth) -> Vec<Fraction> {
+    table.into_values().collect()
+}
+
+pub fn exact_pass(series: &[i64]) -> ExactPass {
+    let n = series.len();
+    assert!(n >= 72);
+    let x = from_grains(series);
+
+    let t1 = two_by_twelve(&x);
+    let si1 = difference(&x, &t1);
+    let r1 = over_runs(&si1, three_by_three, 2, 27);
+
+    let mut m1 = two_by_twelve(&r1);
+    for t in 6..=11 {
+        let lent = m1[&12].clone();
+        m1.insert(t, lent);
+    }
+    for t in n - 12..=n - 7 {
+        let lent = m1[&(n - 13)].clone();
+        m1.insert(t, lent);
+    }
+    let mut s1 = difference(&r1, &m1);
+    for t in 0..6 {
+        let lent = s1[&(t + 12)].clone();
+        s1.insert(t, lent);
+    }
+    for t in n - 6..n {
+        let lent = s1[&(t - 12)].clone();
+        s1.insert(t, lent);
+    }
+    assert_eq!(s1.len(), n);
+
+    let a1 = difference(&x, &s1);
+    let t2 = henderson(&a1);
+    let si2 = difference(&x, &t2);
+    let r2 = over_runs(&si2, three_by_five, 3, 60);
+
+    let mut m2 = two_by_twelve(&r2);
+    for t in 0..6 {
+        let lent = m2[&6].clone();
+        m2.insert(t, lent);
+    }
+    for t in n - 6..n {
+        let lent = m2[&(n - 7)].clone();
+        m2.insert(t, lent);
+    }
+    let s2 = difference(&r2, &m2);
+    assert_eq!((t2.len(), s2.len()), (n, n));
+    ExactPass { t2: listed(t2), s2: listed(s2) }
+}
+
+/// E10 to E13, in grains.
+#[derive(Clone, Debug)]
+pub struct ExactTables {
+    pub e10: Vec<Fraction>,
+    pub e11: Vec<Fraction>,
+    pub e12: Vec<Fraction>,
+    pub e13: Vec<Fraction>,
+}
+
+/// The exact working of the original series B1 and the corrected series D1.
+pub fn exact_working(b1: &[i64], d1: &[i64]) -> ExactTables {
+    assert_eq!(b1.len(), d1.len());
+    let e10: ByMonth = exact_pass(d1).s2.into_iter().enumerate().collect();
+    let e11 = difference(&from_grains(b1), &e10);
+    let e12 = henderson(&difference(&from_grains(d1), &e10));
+    let e13 = difference(&e11, &e12);
+    ExactTables { e10: listed(e10), e11: listed(e11), e12: listed(e12), e13: listed(e13) }
+}
+
+/// The greatest distance between a rounded and an exact table, and the first
+/// month where it is reached.
+#[derive(Clone, Debug)]
+pub struct Distance {
+    pub greatest: Fraction,
+    pub place: usize,
+}
+
+impl Distance {
+    pub fn is_within(&self, grains: i128) -> bool {
+        self.greatest.compare(&Fraction::whole(grains)) != Ordering::Greater
+    }
+}
+
+pub fn distance(rounded: &[i64], exact: &[Fraction]) -> Distance {
+    assert_eq!(rounded.len(), exact.len());
+    let mut found = Distance { greatest: Fraction::whole(0), place: 0 };
+    for (t, (&grains, fraction)) in rounded.iter().zip(exact).enumerate() {
+        let size = Fraction::whole(i128::from(grains)).less(fraction).size();
+        if size.compare(&found.greatest) == Ordering::Greater {
+            found = Distance { greatest: size, place: t };
+        }
+    }
+    found
+}
+
+/// The four distances of D10 to D13 from E10 to E13.
+#[derive(Clone, Debug)]
+pub struct FourDistances {
+    pub d10: Distance,
+    pub d11: Distance,
+    pub d12: Distance,
+    pub d13: Distance,
+}
+
+impl FourDistances {
+    pub fn measure(d10: &[i64], d11: &[i64], d12: &[i64], d13: &[i64], exact: &ExactTables) -> FourDistances {
+        FourDistances {
+            d10: distance(d10, &exact.e10),
+            d11: distance(d11, &exact.e11),
+            d12: distance(d12, &exact.e12),
+            d13: distance(d13, &exact.e13),
+        }
+    }
+
+    /// 10 grains for seasonal and adjusted, 14 for trend, 24 for irregular.
+    pub fn are_within_limits(&self) -> bool {
+        self.d10.is_within(10) && self.d11.is_within(10) && self.d12.is_within(14) && self.d13.is_within(24)
+    }
+}

@@ -1,0 +1,22 @@
+//! Additive X-11 seasonal adjustment of one monthly series, and the desk
+//! file, worked from document 01 ("Exact scope and rules for the additive
+//! X-11 desk") alone.  It is meant to stand beside another program: the two
+//! are given the same series and their tables are compared.
+//!
+//! Plainness comes before speed.  Every filter first gives exact fractions;
+//! a table of fractions is then rounded once.  Months are found by their
+//! labels (calendar year and month), never by arithmetic on the start month.
+
+#![forbid(unsafe_code)]
+
+pub mod calendar;
+pub mod decompose;
+pub mod desk;
+pub mod exact;
+pub mod fraction;
+pub mod generators;
+pub mod pass;
+pub mod print;
+pub mod rows;
+pub mod spread;
+pub mod whole;

@@ -1,0 +1,279 @@
+//! The program `separate`: one subcommand for each thing to be compared.  Figures
+//! and grains come on standard input, separated by any blanks.
+
+#![forbid(unsafe_code)]
+
+use std::io::{self, Read, Write};
+use std::process::ExitCode;
+use separate::calendar::labels;
+use separate::decompose::{check_size_and_start, decompose_fitting, Refusal};
+use separate::desk::{bytes_of, write};
+use separate::exact::{distance, exact_pass, exact_working, FourDistances};
+use separate::generators::{cases, grain_cases, henderson_halves, small_random};
+use separate::pass::{pass, Steps};
+use separate::print::printed;
+use separate::rows::{henderson_centre, musgrave_exact, musgrave_millionths, three_by_five, three_by_three};
+use separate::spread::weights;
+
+const USAGE: &str = "separate tables START      figures: t figure D10 D11 D12 D13 B17 C17
+separate steps START       figures: every table of the three passes, as `pass table t value`
+separate steps             grains: every table of one pass, as `table t value`
+separate pass              grains: t X T2 S2
+separate weights START     irregular in grains: t weight
+separate exact START       figures: t E10 E11 E12 E13 as fractions
+separate distances START   figures: greatest distances of D10 to D13 and whether they are within limits
+separate passdistances     grains: greatest distances of T2 and S2
+separate print             a desk file: what the printing program writes
+separate mkdesk START      figures: a desk file with all weights 1000
+separate mkraw START PER   the same without any check, with a period byte of one's own
+separate rows              the filter rows
+separate cases             all made-up series, one a line: name start figures
+separate case NAME         one of them, figures only
+separate graincases        all made-up series of grains, one a line: name grains
+separate hunt FROM TO      seeds whose Henderson sums meet halves of a grain
+";
+
+fn main() -> ExitCode {
+    let arguments: Vec<String> = std::env::args().skip(1).collect();
+    let words: Vec<&str> = arguments.iter().map(String::as_str).collect();
+    match run(&words) {
+        Ok(bytes) => {
+            let mut out = io::stdout().lock();
+            if out.write_all(&bytes).and_then(|()| out.flush()).is_err() {
+                return ExitCode::from(3);
+            }
+            ExitCode::SUCCESS
+        }
+        Err(complaint) => {
+            eprintln!("{complaint}");
+            ExitCode::from(2)
+        }
+    }
+}
+
+fn run(words: &[&str]) -> Result<Vec<u8>, String> {
+    let text = match words {
+        ["tables", start] => answered(tables(&figures()?, month(start)?)),
+        ["steps", start] => answered(all_steps(&figures()?, month(start)?)),
+        ["steps"] => answered(one_pass(&numbers()?, print_steps)),
+        ["pass"] => answered(one_pass(&numbers()?, print_pass)),
+        ["weights", start] => answered(print_weights(&numbers()?, month(start)?)),
+        ["exact", start] => answered(print_exact(&figures()?, month(start)?)),
+        ["distances", start] => answered(print_distances(&figures()?, month(start)?)),
+        ["passdistances"] => answered(print_pass_distances(&numbers()?)),
+        ["print"] => printed(&standard_input()?),
+        ["mkdesk", start] => return make_desk(&figures()?, month(start)?),
+        ["mkraw", start, period] => {
+            let figures = figures()?;
+            return Ok(bytes_of(&figures, month(start)?, month(period)?, &vec![1000; figures.len()]));
+        }
+        ["rows"] => print_rows(),
+        ["cases"] => {
+            let mut text = String::new();
+            for case in cases() {
+                text.push_str(&format!("{} {} {}\n", case.name, case.start, joined(&case.figures)));
+            }
+            text
+        }
+        ["case", name] => {
+            let case = cases().into_iter().find(|c| c.name == *name).ok_or("no case of that name")?;
+            format!("{}\n", joined(&case.figures))
+        }
+        ["graincases"] => {
+            let mut text = String::new();
+            for case in grain_cases() {
+                text.push_str(&format!("{} {}\n", case.name, joined(&case.grains)));
+            }
+            text
+        }
+        ["hunt", from, to] => hunt(
+            from.parse().map_err(|_| "FROM is no number")?,
+            to.parse().map_err(|_| "TO is no number")?,
+        ),
+        _ => return Err(USAGE.to_string()),
+    };
+    Ok(text.into_bytes())
+}
+
+fn joined<T: ToString>(list: &[T]) -> String {
+    list.iter().map(T::to_string).collect::<Vec<String>>().join(" ")
+}
+
+fn answered(answer: Result<String, Refusal>) -> String {
+    match answer {
+        Ok(text) => text,
+        Err(refusal) => format!("{refusal}\n"),
+    }
+}
+
+fn standard_input() -> Result<Vec<u8>, String> {
+    let mut bytes = Vec::new();
+    io::stdin().lock().read_to_end(&mut bytes).map_err(|e| e.to_string())?;
+    Ok(bytes)
+}
+
+fn numbers() -> Result<Vec<i64>, String> {
+    let text = String::from_utf8(standard_input()?).map_err(|e| e.to_string())?;
+    text.split_whitespace().map(|word| word.parse().map_err(|_| format!("no whole number: {word}"))).collect()
+}
+
+fn figures() -> Result<Vec<i32>, String> {
+    numbers()?.into_iter().map(|v| i32::try_from(v).map_err(|_| format!("no room in 4 bytes: {v}"))).collect()
+}
+
+fn month(word: &str) -> Result<u8, String> {
+    word.parse().map_err(|_| format!("no number from 0 to 255: {word}"))
+}
+
+fn tables(figures: &[i32], start: u8) -> Result<String, Refusal> {
+    let tables = decompose_fitting(figures, start)?;
+    let mut text = String::new();
+    for (t, figure) in figures.iter().enumerate() {
+        text.push_str(&format!(
+            "{} {} {} {} {} {} {} {}\n",
+            t, figure, tables.d10[t], tables.d11[t], tables.d12[t], tables.d13[t], tables.b17[t], tables.c17[t]
+        ));
+    }
+    Ok(text)
+}
+
+fn table_lines<T: ToString>(front: &str, name: &str, first: usize, values: &[T]) -> String {
+    let mut text = String::new();
+    for (index, value) in values.iter().enumerate() {
+        text.push_str(&format!("{front}{name} {} {}\n", first + index, value.to_string()));
+    }
+    text
+}
+
+fn steps_lines(front: &str, steps: &Steps) -> String {
+    let mut text = String::new();
+    for (name, table) in steps.by_name() {
+        text.push_str(&table_lines(front, name, table.first, &table.values));
+    }
+    text
+}
+
+fn all_steps(figures: &[i32], start: u8) -> Result<String, Refusal> {
+    let tables = decompose_fitting(figures, start)?;
+    let mut text = String::new();
+    text.push_str(&steps_lines("B ", &tables.b));
+    text.push_str(&table_lines("B ", "B13", 0, &tables.b13));
+    text.push_str(&table_lines("B ", "B17", 0, &tables.b17));
+    text.push_str(&table_lines("B ", "B20", 0, &tables.b20));
+    text.push_str(&steps_lines("C ", &tables.c));
+    text.push_str(&table_lines("C ", "C13", 0, &tables.c13));
+    text.push_str(&table_lines("C ", "C17", 0, &tables.c17));
+    text.push_str(&table_lines("C ", "C20", 0, &tables.c20));
+    text.push_str(&steps_lines("D ", &tables.d));
+    text.push_str(&table_lines("D ", "D10", 0, &tables.d10));
+    text.push_str(&table_lines("D ", "D11", 0, &tables.d11));
+    text.push_str(&table_lines("D ", "D12", 0, &tables.d12));
+    text.push_str(&table_lines("D ", "D13", 0, &tables.d13));
+    Ok(text)
+}
+
+fn one_pass(grains: &[i64], show: fn(&Steps) -> String) -> Result<String, Refusal> {
+    check_size_and_start(grains.len(), 1)?;
+    Ok(show(&pass(grains)))
+}
+
+fn print_steps(steps: &Steps) -> String {
+    steps_lines("", steps)
+}
+
+fn print_pass(steps: &Steps) -> String {
+    let mut text = String::new();
+    for (t, x) in steps.x.values.iter().enumerate() {
+        text.push_str(&format!("{} {} {} {}\n", t, x, steps.t2.at(t), steps.s2.at(t)));
+    }
+    text
+}
+
+fn print_weights(irregular: &[i64], start: u8) -> Result<String, Refusal> {
+    check_size_and_start(irregular.len(), start)?;
+    let list = weights(irregular, &labels(start, irregular.len()))?;
+    let mut text = String::new();
+    for (t, weight) in list.iter().enumerate() {
+        text.push_str(&format!("{t} {weight}\n"));
+    }
+    Ok(text)
+}
+
+fn print_exact(figures: &[i32], start: u8) -> Result<String, Refusal> {
+    let tables = decompose_fitting(figures, start)?;
+    let exact = exact_working(&tables.b1, &tables.d1);
+    let mut text = String::new();
+    for t in 0..figures.len() {
+        text.push_str(&format!("{} {} {} {} {}\n", t, exact.e10[t], exact.e11[t], exact.e12[t], exact.e13[t]));
+    }
+    Ok(text)
+}
+
+fn print_distances(figures: &[i32], start: u8) -> Result<String, Refusal> {
+    let tables = decompose_fitting(figures, start)?;
+    let exact = exact_working(&tables.b1, &tables.d1);
+    let four = FourDistances::measure(&tables.d10, &tables.d11, &tables.d12, &tables.d13, &exact);
+    let mut text = String::new();
+    for (name, d, limit) in
+        [("D10", &four.d10, 10), ("D11", &four.d11, 10), ("D12", &four.d12, 14), ("D13", &four.d13, 24)]
+    {
+        let word = if d.is_within(limit) { "within" } else { "beyond" };
+        text.push_str(&format!("{name} {} about {:.4} at {} {word} {limit}\n", d.greatest, d.greatest.roughly(), d.place));
+    }
+    Ok(text)
+}
+
+fn print_pass_distances(grains: &[i64]) -> Result<String, Refusal> {
+    check_size_and_start(grains.len(), 1)?;
+    let steps = pass(grains);
+    let exact = exact_pass(grains);
+    let mut text = String::new();
+    for (name, d, limit) in
+        [("T2", distance(&steps.t2.values, &exact.t2), 4), ("S2", distance(&steps.s2.values, &exact.s2), 10)]
+    {
+        let word = if d.is_within(limit) { "within" } else { "beyond" };
+        text.push_str(&format!("{name} {} about {:.4} at {} {word} {limit}\n", d.greatest, d.greatest.roughly(), d.place));
+    }
+    Ok(text)
+}
+
+fn make_desk(figures: &[i32], start: u8) -> Result<Vec<u8>, String> {
+    let n = figures.len();
+    write(figures, start, &vec![1000; n], 4 + 6 * n).map_err(|refusal| refusal.to_string())
+}
+
+fn print_rows() -> String {
+    let mut text = String::new();
+    for (before, after) in [(2, 2), (2, 1), (2, 0), (1, 2), (0, 2)] {
+        text.push_str(&format!("3x3 {before} before {after} after: {} over 27\n", joined(&three_by_three(before, after))));
+    }
+    for (before, after) in [(3, 3), (3, 2), (3, 1), (3, 0), (2, 3), (1, 3), (0, 3)] {
+        text.push_str(&format!("3x5 {before} before {after} after: {} over 60\n", joined(&three_by_five(before, after))));
+    }
+    text.push_str(&format!("Henderson: {} over 16796\n", joined(henderson_centre())));
+    for f in 0..=5 {
+        text.push_str(&format!("Henderson with {f} to follow: {} over 1000000\n", joined(musgrave_millionths(f))));
+        text.push_str(&format!("  exact: {}\n", joined(&musgrave_exact(f))));
+    }
+    text
+}
+
+fn hunt(from: u64, to: u64) -> String {
+    let mut text = String::new();
+    for seed in from..to {
+        let start = (seed % 12 + 1) as u8;
+        let Ok(tables) = decompose_fitting(&small_random(seed, 72), start) else {
+            continue;
+        };
+        let last: Vec<i64> = tables.d1.iter().zip(&tables.d10).map(|(a, b)| a - b).collect();
+        let mut found = (0, 0);
+        for series in [&tables.b.a1.values, &tables.c.a1.values, &tables.d.a1.values, &last] {
+            let (middle, ends) = henderson_halves(series);
+            found = (found.0 + middle, found.1 + ends);
+        }
+        if found != (0, 0) {
+            text.push_str(&format!("{seed} middle {} ends {}\n", found.0, found.1));
+        }
+    }
+    text
+}

@@ -1,0 +1,283 @@
+//! One pass with its steps.  Each filter gives a table of exact fractions,
+//! which is then rounded once to whole grains.
+
+use crate::calendar::{labels, run};
+use crate::rows::{henderson_at, three_by_five, three_by_three};
+
+/// The nearest whole number to upper over lower (above zero), a half away
+/// from zero.
+pub fn nearest(upper: i128, lower: i128) -> i64 {
+    assert!(lower > 0);
+    let size = (2 * upper.abs() + lower) / (2 * lower);
+    let signed = if upper < 0 { -size } else { size };
+    i64::try_from(signed).expect("a table value of reasonable size")
+}
+
+/// A table of grains that begins at some month of the series.
+#[derive(Clone, Debug, PartialEq, Eq)]
+pub struct Placed {
+    pub first: usize,
+    pub values: Vec<i64>,
+}
+
+impl Placed {
+    pub fn whole_series(values: Vec<i64>) -> Placed {
+        Placed { first: 0, values }
+    }
+
+    pub fn last(&self) -> usize {
+        self.first + self.values.len() - 1
+    }
+
+    pub fn at(&self, t: usize) -> i64 {
+        assert!(t >= self.first && t <= self.last(), "the table has no such month");
+        self.values[t - self.first]
+    }
+
+    pub fn less(&self, other: &Placed) -> Placed {
+        assert_eq!((self.first, self.values.len()), (other.first, other.values.len()));
+        let values = self.values.iter().zip(&other.values).map(|(a, b)| a - b).collect();
+        Placed { first: self.first, values }
+    }
+
+    /// The months first to last of a longer table.
+    pub fn part(&self, first: usize, last: usize) -> Placed {
+        Placed { first, values: (first..=last).map(|t| self.at(t)).collect() }
+    }
+}
+
+/// A table of fractions, each an upper and a lower number.
+#[derive(Clone, Debug)]
+pub struct Fractions {
+    pub first: usize,
+    pub values: Vec<(i128, i128)>,
+}
+
+impl Fractions {
+    pub fn rounded(&self) -> Placed {
+        let values = self.values.iter().map(|&(upper, lower)| nearest(upper, lower)).collect();
+        Placed { first: self.first, values }
+    }
+
+    /// How many fractions lie exactly half way between two grains.
+    pub fn halves(&self) -> usize {
+        self.values.iter().filter(|&&(upper, lower)| (2 * upper).rem_euclid(2 * lower) == lower).count()
+    }
+}
+
+/// 2×12: the mean of two neighbouring twelve-month sums, over 24.  Six
+/// months are lost at each end.
+pub fn two_by_twelve(table: &Placed) -> Fractions {
+    let first = table.first + 6;
+    let last = table.last() - 6;
+    let mut values = Vec::new();
+    for t in first..=last {
+        let earlier: i128 = (t - 6..=t + 5).map(|s| i128::from(table.at(s))).sum();
+        let later: i128 = (t - 5..=t + 6).map(|s| i128::from(table.at(s))).sum();
+        values.push((earlier + later, 24));
+    }
+    Fractions { first, values }
+}
+
+/// The end values repeated so that the table covers the months first to last.
+pub fn ends_repeated(table: &Placed, first: usize, last: usize) -> Placed {
+    let mut values = Vec::new();
+    for t in first..=last {
+        let nearest_place = t.max(table.first).min(table.last());
+        values.push(table.at(nearest_place));
+    }
+    Placed { first, values }
+}
+
+/// A seasonal filter over every month's run of a table.
+fn over_runs(table: &Placed, row: fn(usize, usize) -> Vec<i128>, reach: usize, divisor: i128) -> Fractions {
+    // The runs do not depend on which month the series begins with, so any
+    // labelling will do.
+    let labels = labels(1, table.last() + 1);
+    let mut values = vec![(0, divisor); table.values.len()];
+    for month in 1..=12 {
+        let places = run(&labels, month, table.first, table.last());
+        for (index, &t) in places.iter().enumerate() {
+            let before = index.min(reach);
+            let after = (places.len() - 1 - index).min(reach);
+            let weights = row(before, after);
+            let mut sum = 0i128;
+            for (weight, &place) in weights.iter().zip(&places[index - before..=index + after]) {
+                sum += weight * i128::from(table.at(place));
+            }
+            values[t - table.first] = (sum, divisor);
+        }
+    }
+    Fractions { first: table.first, values }
+}
+
+/// 3×3 of every month's run.
+pub fn seasonal_3x3(table: &Placed) -> Fractions {
+    over_runs(table, three_by_three, 2, 27)
+}
+
+/// 3×5 of every month's run.
+pub fn seasonal_3x5(table: &Placed) -> Fractions {
+    over_runs(table, three_by_five, 3, 60)
+}
+
+/// Henderson with its end rows, over all months of a series.
+pub fn henderson(series: &[i64]) -> Fractions {
+    let n = series.len();
+    let mut values = Vec::new();
+    for t in 0..n {
+        let row = henderson_at(t, n);
+        let mut sum = 0i128;
+        for (index, weight) in row.weights.iter().enumerate() {
+            sum += weight * i128::from(series[row.first + index]);
+        }
+        values.push((sum, row.divisor));
+    }
+    Fractions { first: 0, values }
+}
+
+/// All tables of one pass.
+#[derive(Clone, Debug, PartialEq, Eq)]
+pub struct Steps {
+    pub x: Placed,
+    pub t1: Placed,
+    pub si1: Placed,
+    pub r1: Placed,
+    pub m1: Placed,
+    pub s1: Placed,
+    pub a1: Placed,
+    pub t2: Placed,
+    pub si2: Placed,
+    pub r2: Placed,
+    pub m2: Placed,
+    pub s2: Placed,
+    /// How many sums of T1, R1, M1, T2, R2 and M2 fell exactly on a half.
+    pub halves: [usize; 6],
+}
+
+impl Steps {
+    /// The tables by name, in the order of the steps.
+    pub fn by_name(&self) -> Vec<(&'static str, &Placed)> {
+        vec![
+            ("X", &self.x),
+            ("T1", &self.t1),
+            ("SI1", &self.si1),
+            ("R1", &self.r1),
+            ("M1", &self.m1),
+            ("S1", &self.s1),
+            ("A1", &self.a1),
+            ("T2", &self.t2),
+            ("SI2", &self.si2),
+            ("R2", &self.r2),
+            ("M2", &self.m2),
+            ("S2", &self.s2),
+        ]
+    }
+}
+
+/// One pass over a series of at least 72 grains.
+pub fn pass(series: &[i64]) -> Steps {
+    let n = series.len();
+    assert!(n >= 72, "a pass needs six values of every month");
+    let x = Placed::whole_series(series.to_vec());
+
+    // 1, 2: first trend and what it leaves.
+    let t1_exact = two_by_twelve(&x);
+    let t1 = t1_exact.rounded();
+    assert_eq!((t1.first, t1.last()), (6, n - 7));
+    let si1 = x.part(6, n - 7).less(&t1);
+
+    // 3: seasonal of the runs.
+    let r1_exact = seasonal_3x3(&si1);
+    let r1 = r1_exact.rounded();
+
+    // 4: its own 2×12 taken off; six months lent at each end.
+    let m1_exact = two_by_twelve(&r1);
+    let m1_known = m1_exact.rounded();
+    assert_eq!((m1_known.first, m1_known.last()), (12, n - 13));
+    let m1 = ends_repeated(&m1_known, 6, n - 7);
+    let s1_known = r1.less(&m1);
+    let mut s1_values = Vec::new();
+    for t in 0..n {
+        let source = if t < 6 {
+            t + 12
+        } else if t + 6 >= n {
+            t - 12
+        } else {
+            t
+        };
+        s1_values.push(s1_known.at(source));
+    }
+    let s1 = Placed::whole_series(s1_values);
+
+    // 5: adjusted series and second trend.
+    let a1 = x.less(&s1);
+    let t2_exact = henderson(&a1.values);
+    let t2 = t2_exact.rounded();
+
+    // 6: what the second trend leaves, and its seasonal.
+    let si2 = x.less(&t2);
+    let r2_exact = seasonal_3x5(&si2);
+    let r2 = r2_exact.rounded();
+
+    // 7: its own 2×12 taken off.
+    let m2_exact = two_by_twelve(&r2);
+    let m2_known = m2_exact.rounded();
+    assert_eq!((m2_known.first, m2_known.last()), (6, n - 7));
+    let m2 = ends_repeated(&m2_known, 0, n - 1);
+    let s2 = r2.less(&m2);
+
+    let halves = [
+        t1_exact.halves(),
+        r1_exact.halves(),
+        m1_exact.halves(),
+        t2_exact.halves(),
+        r2_exact.halves(),
+        m2_exact.halves(),
+    ];
+    Steps { x, t1, si1, r1, m1, s1, a1, t2, si2, r2, m2, s2, halves }
+}
+
+#[cfg(test)]
+mod tests {
+    use super::*;
+
+    #[test]
+    fn nearest_whole_numbers() {
+        for (upper, lower, answer) in
+            [(1, 2, 1), (-1, 2, -1), (5, 10, 1), (-5, 10, -1), (49, 100, 0), (12, 24, 1), (36, 24, 2), (-36, 24, -2)]
+        {
+            assert_eq!(nearest(upper, lower), answer);
+        }
+    }
+
+    #[test]
+    fn halves_are_counted() {
+        let table = Fractions { first: 0, values: vec![(12, 24), (-12, 24), (36, 24), (24, 24), (13, 24), (-36, 24)] };
+        assert_eq!(table.halves(), 4);
+        assert_eq!(table.rounded().values, vec![1, -1, 2, 1, 1, -2]);
+    }
+
+    #[test]
+    fn a_constant_passes_unchanged() {
+        let steps = pass(&[100_000; 75]);
+        assert_eq!(steps.t2.values, vec![100_000; 75]);
+        assert_eq!(steps.s2.values, vec![0; 75]);
+    }
+
+    #[test]
+    fn a_fixed_seasonal_with_mean_zero_is_found() {
+        // Twelve values with sum zero, repeated: 2×12 of it is zero, and all
+        // later steps give it back.
+        let year = [5000i64, -3000, 800, 0, 12, -12, 700, 1, -1, 2000, -1500, -4000];
+        assert_eq!(year.iter().sum::<i64>(), 0);
+        for n in 72..=97 {
+            let series: Vec<i64> = (0..n).map(|t| 70_000 + year[t % 12]).collect();
+            let steps = pass(&series);
+            for t in 0..n {
+                assert_eq!(steps.t2.at(t), 70_000);
+                assert_eq!(steps.s2.at(t), year[t % 12]);
+            }
+        }
+    }
+}

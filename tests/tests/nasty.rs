@@ -1,0 +1,158 @@
+//! The made-up series: the parts add back, the four distances and those of
+//! the passes keep their limits, and halves of a grain really occur.
+
+use separate::decompose::decompose_fitting;
+use separate::exact::{distance, exact_pass, exact_working, FourDistances};
+use separate::generators::{
+    cases, grain_cases, henderson_halves, small_random, SEEDS_WITH_HALVES_AT_THE_ENDS, SEEDS_WITH_HALVES_IN_THE_MIDDLE,
+};
+use separate::pass::pass;
+
+#[test]
+fn every_case_adds_back_and_keeps_its_distance() {
+    let mut greatest = [0.0f64; 4];
+    let mut halves = [0usize; 7];
+    let mut partly = 0;
+    for case in cases() {
+        let tables = decompose_fitting(&case.figures, case.start).expect("an allowed series");
+        let n = case.figures.len();
+        for t in 0..n {
+            assert_eq!(tables.d10[t] + tables.d12[t] + tables.d13[t], tables.b1[t], "{} month {t}", case.name);
+            assert_eq!(tables.d10[t] + tables.d11[t], tables.b1[t]);
+            assert!(tables.b17[t] <= 1000 && tables.c17[t] <= 1000);
+            if tables.c17[t] > 0 && tables.c17[t] < 1000 {
+                partly += 1;
+            }
+        }
+        let exact = exact_working(&tables.b1, &tables.d1);
+        let four = FourDistances::measure(&tables.d10, &tables.d11, &tables.d12, &tables.d13, &exact);
+        assert!(four.are_within_limits(), "{}", case.name);
+        for (best, d) in greatest.iter_mut().zip([&four.d10, &four.d11, &four.d12, &four.d13]) {
+            *best = best.max(d.greatest.roughly());
+        }
+        for steps in [&tables.b, &tables.c, &tables.d] {
+            for (sum, count) in halves.iter_mut().zip(steps.halves) {
+                *sum += count;
+            }
+        }
+        halves[6] += tables.d12_halves;
+    }
+    println!("greatest distances of D10 to D13: {greatest:?}");
+    println!("halves met in T1, R1, M1, T2, R2, M2 and D12: {halves:?}; months with a weight between: {partly}");
+    assert!(partly > 100);
+    // 27ths never meet a half; all others do.
+    assert_eq!(halves[1], 0);
+    for index in [0, 2, 3, 4, 5] {
+        assert!(halves[index] > 0);
+    }
+}
+
+#[test]
+fn the_passes_keep_their_distance() {
+    let mut greatest = [0.0f64; 2];
+    let mut series: Vec<(String, Vec<i64>)> = grain_cases().into_iter().map(|c| (c.name, c.grains)).collect();
+    for case in cases().into_iter().step_by(7) {
+        let tables = decompose_fitting(&case.figures, case.start).unwrap();
+        series.push((format!("{} B", case.name), tables.b1));
+        series.push((format!("{} C", case.name), tables.c1));
+        series.push((format!("{} D", case.name), tables.d1));
+    }
+    for (name, x) in series {
+        let steps = pass(&x);
+        let exact = exact_pass(&x);
+        let t2 = distance(&steps.t2.values, &exact.t2);
+        let s2 = distance(&steps.s2.values, &exact.s2);
+        assert!(t2.is_within(4), "{name}");
+        assert!(s2.is_within(10), "{name}");
+        greatest[0] = greatest[0].max(t2.greatest.roughly());
+        greatest[1] = greatest[1].max(s2.greatest.roughly());
+    }
+    println!("greatest distances of T2 and S2: {greatest:?}");
+}
+
+#[test]
+fn the_seeds_meet_halves_in_henderson_sums() {
+    let count = |seed: u64| {
+        let tables = decompose_fitting(&small_random(seed, 72), (seed % 12 + 1) as u8).unwrap();
+        let last: Vec<i64> = tables.d1.iter().zip(&tables.d10).map(|(a, b)| a - b).collect();
+        let mut found = (0, 0);
+        for series in [&tables.b.a1.values, &tables.c.a1.values, &tables.d.a1.values, &last] {
+            let (middle, ends) = henderson_halves(series);
+            found = (found.0 + middle, found.1 + ends);
+        }
+        found
+    };
+    for seed in SEEDS_WITH_HALVES_IN_THE_MIDDLE {
+        assert!(count(seed).0 > 0, "seed {seed}");
+    }
+    for seed in SEEDS_WITH_HALVES_AT_THE_ENDS {
+        assert!(count(seed).1 > 0, "seed {seed}");
+    }
+}
+
+/// The exact working against floating numbers: not exact, but an
+/// independent check of the bookkeeping with fractions.
+#[test]
+fn fractions_agree_with_floating_numbers() {
+    for case in cases().into_iter().step_by(11) {
+        let tables = decompose_fitting(&case.figures, case.start).unwrap();
+        let exact = exact_working(&tables.b1, &tables.d1);
+        for t in 0..case.figures.len() {
+            let sum = exact.e10[t].plus(&exact.e12[t]).plus(&exact.e13[t]);
+            assert_eq!(sum.to_string(), format!("{}/1", tables.b1[t]));
+        }
+        let floating = floating_seasonal(&tables.d1);
+        for (fraction, value) in exact.e10.iter().zip(&floating) {
+            assert!((fraction.roughly() - value).abs() < 1e-4, "{}: {} {}", case.name, fraction.roughly(), value);
+        }
+    }
+}
+
+/// S2 of one pass in floating numbers.
+fn floating_seasonal(series: &[i64]) -> Vec<f64> {
+    use separate::rows::{henderson_at, three_by_five, three_by_three};
+    let n = series.len();
+    let x: Vec<f64> = series.iter().map(|&v| v as f64).collect();
+    let centred = |table: &[f64], t: usize| {
+        let inner: f64 = table[t - 5..=t + 5].iter().sum();
+        (table[t - 6] / 2.0 + inner + table[t + 6] / 2.0) / 12.0
+    };
+    let mut si1 = vec![0.0; n];
+    for t in 6..n - 6 {
+        si1[t] = x[t] - centred(&x, t);
+    }
+    let mut r1 = vec![0.0; n];
+    for t in 6..n - 6 {
+        let before = (t - 6) / 12;
+        let after = (n - 7 - t) / 12;
+        for (index, w) in three_by_three(before, after).iter().enumerate() {
+            r1[t] += *w as f64 / 27.0 * si1[t + 12 * index - 12 * before.min(2)];
+        }
+    }
+    let mut s1 = vec![0.0; n];
+    for t in 6..n - 6 {
+        s1[t] = r1[t] - centred(&r1, t.clamp(12, n - 13));
+    }
+    for t in 0..6 {
+        s1[t] = s1[t + 12];
+        s1[n - 1 - t] = s1[n - 13 - t];
+    }
+    let mut si2 = vec![0.0; n];
+    for t in 0..n {
+        let row = henderson_at(t, n);
+        let mut trend = 0.0;
+        for (index, w) in row.weights.iter().enumerate() {
+            trend += *w as f64 / row.divisor as f64 * (x[row.first + index] - s1[row.first + index]);
+        }
+        si2[t] = x[t] - trend;
+    }
+    let mut r2 = vec![0.0; n];
+    for t in 0..n {
+        let before = t / 12;
+        let after = (n - 1 - t) / 12;
+        for (index, w) in three_by_five(before, after).iter().enumerate() {
+            r2[t] += *w as f64 / 60.0 * si2[t + 12 * index - 12 * before.min(3)];
+        }
+    }
+    (0..n).map(|t| r2[t] - centred(&r2, t.clamp(6, n - 7))).collect()
+}
