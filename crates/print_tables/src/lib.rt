@@ -292,7 +292,8 @@ pub fn run() {
     run_on(0);
 }
 
-// The same for any open file. One byte more than the longest desk file is read, so that a longer one is refused for its length.
+// The same for any open file. One byte more than the longest desk file is read: a longer input prints what its first 3,605 bytes do
+// (proofs/LongFiles.antt, read-enough).
 pub fn run_on(fd: i32) {
     let mut file = [0u8; LONGEST_FILE + 1];
     let mut out = [0u8; TEXT];
