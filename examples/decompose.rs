@@ -1,0 +1,82 @@
+//! Reads a desk file and prints its tables: t (the month, counted from 0), figure, D10, D11, D12, D13 in units, and the weights B17 and
+//! C17. A refusal goes to standard error with its number and place, and its number is the exit status. In the repository's folder:
+//!
+//!     rt staticlib exports
+//!     rustc --edition 2021 -O -D warnings -L target/staticlib -o target/decompose-rust examples/decompose.rs
+//!     target/decompose-rust examples/production.desk
+
+use std::process::ExitCode;
+
+// As in include/vepsjalm.h, which says what each asks and leaves. A slice is a pointer and its length.
+#[link(name = "exports", kind = "static")]
+extern "C" {
+    fn vepsjalm_read(
+        file: *const u8, file_length: usize, figures: *mut i32, figures_length: usize, weights: *mut u16, weights_length: usize,
+        count: *mut u64, start: *mut u8, place: *mut u64,
+    ) -> u8;
+    fn vepsjalm_decompose(
+        figures: *const i32, figures_length: usize, start: u8,
+        d10: *mut i64, d10_length: usize, d11: *mut i64, d11_length: usize,
+        d12: *mut i64, d12_length: usize, d13: *mut i64, d13_length: usize,
+        b17: *mut u16, b17_length: usize, c17: *mut u16, c17_length: usize,
+        scratch: *mut i64, scratch_length: usize, place: *mut u64,
+    ) -> u8;
+}
+
+const MOST_MONTHS: usize = 600;
+const UNREAD: u8 = 100; // the exit status for a file that cannot be read: no refusal has this number
+
+/// The figures and the start month, or a refusal's number and place.
+fn read(file: &[u8]) -> Result<(Vec<i32>, u8), (u8, u64)> {
+    let (mut figures, mut weights) = (vec![0; MOST_MONTHS], vec![0; MOST_MONTHS]);
+    let (mut count, mut start, mut place) = (0, 0, 0);
+    // Each pointer goes with the length of what it points to, and no two overlap; below likewise.
+    let number = unsafe {
+        vepsjalm_read(file.as_ptr(), file.len(), figures.as_mut_ptr(), MOST_MONTHS, weights.as_mut_ptr(), MOST_MONTHS,
+            &mut count, &mut start, &mut place)
+    };
+    figures.truncate(count as usize);
+    if number == 0 { Ok((figures, start)) } else { Err((number, place)) }
+}
+
+/// The text of the tables, or a refusal's number and place.
+fn tables(figures: &[i32], start: u8) -> Result<String, (u8, u64)> {
+    let n = figures.len();
+    let (mut d10, mut d11, mut d12, mut d13) = (vec![0; n], vec![0; n], vec![0; n], vec![0; n]);
+    let (mut b17, mut c17, mut scratch, mut place) = (vec![0; n], vec![0; n], vec![0; 8 * n], 0);
+    let number = unsafe {
+        vepsjalm_decompose(figures.as_ptr(), n, start,
+            d10.as_mut_ptr(), n, d11.as_mut_ptr(), n, d12.as_mut_ptr(), n, d13.as_mut_ptr(), n,
+            b17.as_mut_ptr(), n, c17.as_mut_ptr(), n, scratch.as_mut_ptr(), 8 * n, &mut place)
+    };
+    if number != 0 {
+        return Err((number, place));
+    }
+    let units = |thousandths: i64| thousandths as f64 / 1000.0;
+    let mut text = format!("{:>3} {:>7} {:>12} {:>12} {:>12} {:>12} {:>4} {:>4}\n",
+        "t", "figure", "D10", "D11", "D12", "D13", "B17", "C17");
+    for t in 0..n {
+        text += &format!("{t:3} {:7} {:12.3} {:12.3} {:12.3} {:12.3} {:4} {:4}\n", figures[t],
+            units(d10[t]), units(d11[t]), units(d12[t]), units(d13[t]), b17[t], c17[t]);
+    }
+    Ok(text)
+}
+
+fn main() -> ExitCode {
+    let name = std::env::args().nth(1).unwrap_or("examples/production.desk".to_string());
+    let file = match std::fs::read(&name) {
+        Ok(file) => file,
+        Err(error) => {
+            eprintln!("{name}: {error}");
+            return ExitCode::from(UNREAD);
+        }
+    };
+    match read(&file).and_then(|(figures, start)| tables(&figures, start)) {
+        Ok(text) => print!("{text}"),
+        Err((number, place)) => {
+            eprintln!("refused {number} {place}");
+            return ExitCode::from(number);
+        }
+    }
+    ExitCode::SUCCESS
+}

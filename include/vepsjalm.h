@@ -1,0 +1,102 @@
+/* Vepsjalm: seasonal adjustment of a monthly series by the additive X-11 method, and its desk file. For C99 or later, and for C++.
+   `rt staticlib exports` writes the library, target/staticlib/libexports.a; examples/decompose.c is a whole caller.
+
+   For all three functions:
+
+   - They return 0 for success, else a refusal's number, for any lengths and any values. Either way they set what the last pointers
+     point to: the place, and before it in reading the count and start month, in writing the size.
+   - A slice is a pointer and, straight after it, its length, counted in entries and not in bytes.
+   - All memory is the caller's. Nothing is allocated and there is no global state: many threads may call side by side, each on
+     memory of its own. Figures, weights and files that are only read may be shared.
+   - The caller owes pointers that are aligned for their type, valid for their length, and never null, not even for length 0; and
+     that nothing a call writes to overlaps anything else that is lent to that call. */
+#ifndef VEPSJALM_H
+#define VEPSJALM_H
+
+#include <stddef.h>
+#include <stdint.h>
+
+/* The limits. */
+#define VEPSJALM_LEAST_MONTHS 72       /* months of a series, n */
+#define VEPSJALM_MOST_MONTHS 600
+#define VEPSJALM_YEAR 12               /* the last start month, the first being 1; and the period of a desk file */
+#define VEPSJALM_LARGEST_FIGURE 200000 /* a figure's size, in units: -200,000 to 200,000 */
+#define VEPSJALM_UNIT 1000             /* thousandths in a unit; the tables are in thousandths */
+#define VEPSJALM_FULL_WEIGHT 1000      /* the weight of a month that counts in full; weights are 0 to 1,000 */
+
+/* Entries of scratch and bytes of a desk file for n months; bytes of the longest desk file, 3,604. */
+#define VEPSJALM_SCRATCH_FOR(n) (8 * (n))
+#define VEPSJALM_FILE_LENGTH(n) (4 + 6 * (n))
+#define VEPSJALM_LONGEST_FILE VEPSJALM_FILE_LENGTH(VEPSJALM_MOST_MONTHS)
+
+/* The refusal sheet: number, when, and what the place holds. t is a month's place in the series, counted from 0; n is the number of
+   figures in decomposing and writing, the file's count in reading.
+
+   Decomposing checks 1, 2, 3, 4, 5, 6; reading 7, 1, 2, 3, 8, 9, 4, 5, 10; writing 1, 2, 3, 4, 5, 10. The first that applies is the
+   answer, so that all figures are looked at before any weight. A refusal changes no slice; only 6, which is proved never to happen,
+   would leave the scratch as success does. */
+#define VEPSJALM_SUCCESS 0             /* no refusal                                             0 */
+#define VEPSJALM_TOO_SHORT 1           /* n below 72                                             0 */
+#define VEPSJALM_TOO_LONG 2            /* n above 600                                            0 */
+#define VEPSJALM_BAD_START 3           /* start month outside 1 to 12                            0 */
+#define VEPSJALM_WRONG_LENGTH 4        /* a lent slice has the wrong length                      0 */
+#define VEPSJALM_FIGURE_OUTSIDE 5      /* a figure outside -200,000 to 200,000                   t of the first such figure */
+#define VEPSJALM_EMPTY_GROUP 6         /* dropping leaves a group empty                          0 */
+#define VEPSJALM_NO_HEADER 7           /* a file of fewer than 4 bytes                           0 */
+#define VEPSJALM_BAD_PERIOD 8          /* the file's period is not 12                            0 */
+#define VEPSJALM_BAD_FILE_LENGTH 9     /* the file's length is not 4+6n bytes                    0 */
+#define VEPSJALM_WEIGHT_ABOVE 10       /* a weight above 1,000                                   t of the first such weight */
+
+#ifdef __cplusplus
+extern "C" {
+#endif
+
+/* Decomposing: a series into its tables.
+
+   figures     n of them, in units, oldest first
+   start       calendar month of the first figure, 1 to 12
+   d10 to d13  exactly n entries each; filled with final seasonal, adjusted figure, final trend-cycle and final irregular, in thousandths
+   b17, c17    exactly n entries each; filled with the weights of extreme months of the first and second pass, 0 to 1,000 (in full)
+   scratch     at least 8n entries; success leaves the first 8n zero, and the rest as it was
+   place       set to the refusal's place; 0 after success
+
+   In every month d10 and d11 make the figure times 1,000, and so do d10, d12 and d13. */
+uint8_t vepsjalm_decompose(
+    const int32_t *figures, size_t figures_length, uint8_t start,
+    int64_t *d10, size_t d10_length, int64_t *d11, size_t d11_length,
+    int64_t *d12, size_t d12_length, int64_t *d13, size_t d13_length,
+    uint16_t *b17, size_t b17_length, uint16_t *c17, size_t c17_length,
+    int64_t *scratch, size_t scratch_length, uint64_t *place);
+
+/* Reading a desk file. It has the count n in 2 bytes, the start month in 1 and the period 12 in 1, then n figures of 4 bytes, signed, then
+   n weights of 2 bytes, all low byte first: 4+6n bytes.
+
+   file        the bytes
+   figures     at least n entries; success fills the first n, in units, and leaves the rest
+   weights     at least n entries; success fills the first n, 0 to 1,000, and leaves the rest
+   count       set to n; 0 after a refusal
+   start       set to the start month, 1 to 12; 0 after a refusal
+   place       set to the refusal's place; 0 after success
+
+   Slices of VEPSJALM_MOST_MONTHS entries have room for every file. */
+uint8_t vepsjalm_read(
+    const uint8_t *file, size_t file_length, int32_t *figures, size_t figures_length, uint16_t *weights, size_t weights_length,
+    uint64_t *count, uint8_t *start, uint64_t *place);
+
+/* Writing a desk file. What is written is read again unchanged.
+
+   figures     n of them, in units
+   start       calendar month of the first figure, 1 to 12
+   weights     exactly n entries, 0 to 1,000
+   out         at least 4+6n bytes; success fills the first 4+6n and leaves the rest
+   size        set to 4+6n; 0 after a refusal
+   place       set to the refusal's place; 0 after success */
+uint8_t vepsjalm_write(
+    const int32_t *figures, size_t figures_length, uint8_t start, const uint16_t *weights, size_t weights_length,
+    uint8_t *out, size_t out_length, uint64_t *size, uint64_t *place);
+
+#ifdef __cplusplus
+}
+#endif
+
+#endif

@@ -1,0 +1,207 @@
+//! The examples in C and Rust, built and run by the commands of their headings, beside the separately written program; and the C header's
+//! constants beside its limits and refusals.
+
+use separate::decompose::{decompose, decompose_fitting, Lent, Refusal, Tables, FEWEST_MONTHS, FIGURE_LIMIT, MOST_MONTHS};
+use separate::desk::{bytes_of, read, write, DeskSeries};
+use separate::generators::book_series;
+use std::fs;
+use std::path::{Path, PathBuf};
+use std::process::{Command, Output};
+
+fn root() -> &'static Path {
+    Path::new(env!("CARGO_MANIFEST_DIR")).parent().expect("the repository's folder")
+}
+
+fn text(bytes: &[u8]) -> String {
+    String::from_utf8(bytes.to_vec()).expect("text")
+}
+
+/// Runs a command in the repository's folder, by the shell.
+fn shell(command: &str) -> Output {
+    Command::new("sh").arg("-c").arg(command).current_dir(root()).output().expect("a shell")
+}
+
+/// Builds a program that was not there before.
+fn build(command: &str, program: &Path) {
+    let _ = fs::remove_file(program);
+    assert!(!program.exists());
+    let built = shell(command);
+    assert!(built.status.success() && program.exists(), "{command}\n{}", text(&built.stderr));
+}
+
+/// Thousandths as units with three decimals, by whole numbers.
+fn units(thousandths: i64) -> String {
+    let (sign, size) = if thousandths < 0 { ("-", -thousandths) } else { ("", thousandths) };
+    format!("{sign}{}.{:03}", size / 1000, size % 1000)
+}
+
+fn tables_text(figures: &[i32], tables: &Tables) -> String {
+    let mut text = "  t  figure          D10          D11          D12          D13  B17  C17\n".to_string();
+    for (t, figure) in figures.iter().enumerate() {
+        let [d10, d11, d12, d13] = [&tables.d10, &tables.d11, &tables.d12, &tables.d13].map(|table| units(table[t]));
+        let (b17, c17) = (tables.b17[t], tables.c17[t]);
+        text.push_str(&format!("{t:>3} {figure:>7} {d10:>12} {d11:>12} {d12:>12} {d13:>12} {b17:>4} {c17:>4}\n"));
+    }
+    text
+}
+
+/// What an example must give for a file: exit status, standard output, standard error.
+fn expected(file: &[u8]) -> (i32, String, String) {
+    let worked = read(file, MOST_MONTHS, MOST_MONTHS).and_then(|DeskSeries { figures, start, .. }| {
+        let tables = decompose_fitting(&figures, start)?;
+        Ok(tables_text(&figures, &tables))
+    });
+    match worked {
+        Ok(tables) => (0, tables, String::new()),
+        Err(refusal) => (refusal.number.into(), String::new(), format!("{refusal}\n")),
+    }
+}
+
+fn given(output: &Output) -> (i32, String, String) {
+    (output.status.code().expect("an exit status"), text(&output.stdout), text(&output.stderr))
+}
+
+fn desk(figures: &[i32], start: u8) -> Vec<u8> {
+    bytes_of(figures, start, 12, &vec![1000; figures.len()])
+}
+
+/// Desk files that are accepted: one with small figures, whose tables have values between -1 and 0, and the longest, at both limits.
+fn accepted() -> [Vec<u8>; 2] {
+    let small: Vec<i32> = (0..72).map(|t| t * t % 7 - 3).collect();
+    let large: Vec<i32> = (0..600).map(|t| if t * t % 11 < 4 { FIGURE_LIMIT } else { -FIGURE_LIMIT }).collect();
+    assert!(expected(&desk(&small, 7)).1.contains(" -0."));
+    [desk(&small, 7), desk(&large, 1)]
+}
+
+/// Desk files that are refused, with the number and the place.
+fn refused() -> Vec<(Vec<u8>, u8, usize)> {
+    let good = desk(&[100; 72], 1);
+    let mut longer = desk(&[100; 600], 1);
+    longer.extend([0; 2000]);
+    let (mut figures, mut weights) = ([100; 72], [1000; 72]);
+    (figures[44], weights[5]) = (-200_001, 1001);
+    vec![
+        (desk(&[100; 71], 1), 1, 0),
+        (desk(&[100; 601], 1), 2, 0),
+        (desk(&[100; 72], 13), 3, 0),
+        (desk(&figures, 1), 5, 44),
+        (vec![], 7, 0),
+        (good[..3].to_vec(), 7, 0),
+        (bytes_of(&[100; 72], 1, 4, &[1000; 72]), 8, 0),
+        (good[..435].to_vec(), 9, 0),
+        (longer[..3605].to_vec(), 9, 0),
+        (longer, 9, 0),
+        (bytes_of(&[100; 72], 1, 12, &weights), 10, 5),
+    ]
+}
+
+/// The one line of an example's heading that starts so.
+fn heading_line(source: &str, start: &str) -> String {
+    let text = fs::read_to_string(root().join(source)).expect("an example");
+    let lines: Vec<&str> = text.lines().map(|line| line.trim_start_matches("//!").trim()).filter(|l| l.starts_with(start)).collect();
+    assert_eq!(lines.len(), 1, "{source}: {start}");
+    lines[0].to_string()
+}
+
+fn try_example(source: &str, compiler: &str) {
+    let run = heading_line(source, "target/");
+    let (program, file) = run.split_once(' ').expect("a program and a file");
+    assert_eq!(file, "examples/production.desk");
+    build(&heading_line(source, compiler), &root().join(program));
+    let book = expected(&desk(&book_series(), 10));
+    assert_eq!(book.1.lines().count(), 115);
+    assert_eq!(given(&shell(&run)), book, "{run}");
+    assert_eq!(given(&shell(program)), book, "{program}, which takes the same file");
+
+    let path = PathBuf::from(env!("CARGO_TARGET_TMPDIR")).join(compiler.trim()).with_extension("desk");
+    let run_on = |file: &[u8]| {
+        fs::write(&path, file).expect("a file");
+        given(&Command::new(root().join(program)).arg(&path).output().expect("a run"))
+    };
+    for file in accepted() {
+        assert_eq!(expected(&file).0, 0);
+        assert_eq!(run_on(&file), expected(&file), "{program}, {} bytes", file.len());
+    }
+    for (file, number, place) in refused() {
+        assert_eq!(expected(&file), (number.into(), String::new(), format!("refused {number} {place}\n")));
+        assert_eq!(run_on(&file), expected(&file), "{program}, {} bytes", file.len());
+    }
+    fs::remove_file(&path).expect("a file");
+    let unread = Command::new(root().join(program)).arg(&path).output().expect("a run");
+    assert_eq!((unread.status.code(), unread.stdout.len()), (Some(100), 0), "{program}, no file");
+}
+
+#[test]
+fn example_in_c() {
+    try_example("examples/decompose.c", "cc ");
+}
+
+#[test]
+fn example_in_rust() {
+    try_example("examples/decompose.rs", "rustc ");
+}
+
+fn number<T: std::fmt::Debug>(answer: Result<T, Refusal>) -> usize {
+    answer.unwrap_err().number.into()
+}
+
+/// The header's constants, as the separately written program has them.
+fn constants() -> Vec<(&'static str, usize)> {
+    let series = |n| decompose_fitting(&vec![0; n], 1);
+    let file = |bytes: &[u8]| read(bytes, MOST_MONTHS, MOST_MONTHS);
+    let length = |n| write(&vec![0; n], 1, &vec![0; n], usize::MAX).unwrap().len();
+    let right = Lent::right_for(72);
+    vec![
+        ("LEAST_MONTHS", FEWEST_MONTHS),
+        ("MOST_MONTHS", MOST_MONTHS),
+        ("YEAR", 12),
+        ("LARGEST_FIGURE", FIGURE_LIMIT as usize),
+        ("UNIT", decompose_fitting(&[1; 72], 1).unwrap().b1[0] as usize),
+        ("FULL_WEIGHT", series(72).unwrap().c17[0].into()),
+        ("SCRATCH_FOR(72)", right.scratch),
+        ("FILE_LENGTH(72)", length(72)),
+        ("LONGEST_FILE", length(MOST_MONTHS)),
+        ("SUCCESS", 0),
+        ("TOO_SHORT", number(series(71))),
+        ("TOO_LONG", number(series(601))),
+        ("BAD_START", number(decompose_fitting(&[0; 72], 13))),
+        ("WRONG_LENGTH", number(decompose(&[0; 72], 1, &Lent { d10: 71, ..right }))),
+        ("FIGURE_OUTSIDE", number(decompose_fitting(&[200_001; 72], 1))),
+        ("EMPTY_GROUP", 6), // no series brings it about
+        ("NO_HEADER", number(file(&[72, 0, 1]))),
+        ("BAD_PERIOD", number(file(&bytes_of(&[0; 72], 1, 4, &[0; 72])))),
+        ("BAD_FILE_LENGTH", number(file(&[72, 0, 1, 12]))),
+        ("WEIGHT_ABOVE", number(file(&bytes_of(&[0; 72], 1, 12, &[1001; 72])))),
+    ]
+}
+
+/// Builds header.c in a language, and compares what it prints and writes.
+fn try_header(compiler: &str, language: &str) {
+    let program = PathBuf::from(env!("CARGO_TARGET_TMPDIR")).join(format!("header-{language}"));
+    let options = "-Wall -Wextra -Wpedantic -Werror -I include";
+    let sources = format!("-x {language} tests/tests/header.c -x none target/staticlib/libexports.a");
+    build(&format!("{compiler} {options} -o '{}' {sources}", program.display()), &program);
+    let output = Command::new(&program).arg(root().join("examples/production.desk")).output().expect("a run");
+    let mut lines: Vec<String> = constants().iter().map(|(name, value)| format!("VEPSJALM_{name} {value}\n")).collect();
+    lines.extend(["read 0 114 10 0\n".to_string(), "write 0 688 0\n".to_string()]);
+    let file = desk(&book_series(), 10);
+    assert_eq!(text(&output.stdout[..output.stdout.len() - file.len()]), lines.concat(), "{language}");
+    assert!(output.stdout.ends_with(&file), "{language}: what was read is written again");
+}
+
+#[test]
+fn header_in_c_and_cpp() {
+    let header = fs::read_to_string(root().join("include/vepsjalm.h")).expect("the header");
+    let names: Vec<String> = header
+        .lines()
+        .filter_map(|line| line.strip_prefix("#define VEPSJALM_")?.split(' ').next())
+        .map(|name| name.replace("(n)", "(72)"))
+        .filter(|name| name != "H")
+        .collect();
+    let constants: Vec<&str> = constants().iter().map(|(name, _)| *name).collect();
+    assert_eq!(names, constants, "the test knows every constant");
+    try_header("cc -std=c99", "c");
+    if shell("c++ --version").status.success() {
+        try_header("c++ -std=c++11", "c++");
+    }
+}

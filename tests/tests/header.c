@@ -1,0 +1,53 @@
+/* Prints the constants of the header by name, the answers of reading the desk file named on the command line and of writing it again, and
+   then the bytes written. callers.rs builds it as C and as C++. */
+#include <inttypes.h>
+#include <stdio.h>
+#include "vepsjalm.h"
+
+#define SHOW(constant) printf("%s %ld\n", #constant, (long)(constant))
+
+static uint8_t file[VEPSJALM_LONGEST_FILE], out[VEPSJALM_LONGEST_FILE];
+static int32_t figures[VEPSJALM_MOST_MONTHS];
+static uint16_t weights[VEPSJALM_MOST_MONTHS];
+
+static void show_constants(void)
+{
+    SHOW(VEPSJALM_LEAST_MONTHS);
+    SHOW(VEPSJALM_MOST_MONTHS);
+    SHOW(VEPSJALM_YEAR);
+    SHOW(VEPSJALM_LARGEST_FIGURE);
+    SHOW(VEPSJALM_UNIT);
+    SHOW(VEPSJALM_FULL_WEIGHT);
+    SHOW(VEPSJALM_SCRATCH_FOR(72));
+    SHOW(VEPSJALM_FILE_LENGTH(72));
+    SHOW(VEPSJALM_LONGEST_FILE);
+    SHOW(VEPSJALM_SUCCESS);
+    SHOW(VEPSJALM_TOO_SHORT);
+    SHOW(VEPSJALM_TOO_LONG);
+    SHOW(VEPSJALM_BAD_START);
+    SHOW(VEPSJALM_WRONG_LENGTH);
+    SHOW(VEPSJALM_FIGURE_OUTSIDE);
+    SHOW(VEPSJALM_EMPTY_GROUP);
+    SHOW(VEPSJALM_NO_HEADER);
+    SHOW(VEPSJALM_BAD_PERIOD);
+    SHOW(VEPSJALM_BAD_FILE_LENGTH);
+    SHOW(VEPSJALM_WEIGHT_ABOVE);
+}
+
+int main(int arguments, char **words)
+{
+    show_constants();
+    FILE *stream = arguments > 1 ? fopen(words[1], "rb") : NULL;
+    if (stream == NULL)
+        return 100;
+    size_t size = fread(file, 1, sizeof file, stream);
+    fclose(stream);
+    uint64_t count, place, written;
+    uint8_t start;
+    int number = vepsjalm_read(file, size, figures, VEPSJALM_MOST_MONTHS, weights, VEPSJALM_MOST_MONTHS, &count, &start, &place);
+    printf("read %d %" PRIu64 " %d %" PRIu64 "\n", number, count, start, place);
+    number = vepsjalm_write(figures, (size_t)count, start, weights, (size_t)count, out, sizeof out, &written, &place);
+    printf("write %d %" PRIu64 " %" PRIu64 "\n", number, written, place);
+    fwrite(out, 1, (size_t)written, stdout);
+    return 0;
+}
