@@ -130,6 +130,7 @@ module _ {f x : List ℤ} (h : Final f x) where
 
   pub adjustable : {s : List ℤ} → s ≡ S2 x → Adjustable x s
   adjustable e = rw e (record {
+    long = series .long;
     both = record { short = omega (arith, h .figures .short, h .x-long); long = length-s2 x; left = larger x-small (omega arith); right = larger s2-small (omega arith) };
     less = larger (within-minus x-small s2-small) (omega arith);
   })

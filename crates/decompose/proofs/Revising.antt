@@ -56,12 +56,13 @@ module _ {start : ℕ} {f x : List ℤ} (h : Revisable start f x) where
   length-is : {b : List ℤ} → b ≡ irregularOf b1 x → length b ≡ length f
   length-is e = ap length e ∙ length-irregular b1 x ∙ length-times unit f
 
-  pub weighable : {b a : List ℤ} {w : List ℕ} → b ≡ irregularOf b1 x → length a ≡ length f → length w ≡ length f → Weighable start b a w
-  weighable e i j = record {
+  pub weighable : {b a s : List ℤ} {w : List ℕ} → b ≡ irregularOf b1 x → length a ≡ length f → length s ≡ length f → length w ≡ length f → Weighable start b a s w
+  weighable e i j k = record {
     calendar = record { least = omega (arith, length-is e, h .long); most = omega (arith, length-is e, h .figures .short); early = h .early; late = h .late };
     small = rw e (larger (within-irregular (h .figures) start half x x-small) (omega arith));
     sizes = i ∙ sym (length-is e);
-    weights = j ∙ sym (length-is e);
+    sums = j ∙ sym (length-is e);
+    weights = k ∙ sym (length-is e);
   }
 
   pub weighted : {b : List ℤ} {w : List ℕ} → b ≡ irregularOf b1 x → w ≡ weightsOf start b → Weighted f b w

@@ -90,7 +90,7 @@ fn revise(
     pass::one_pass(x, a, b, t, s);
     adjusted(figures, s, a);
     filters::minus(a, t, b);
-    let found = extremes::weights(b, start, a, w);
+    let found = extremes::weights(b, start, a, s, w);
     corrected(figures, b, w, x);
     found
 }

@@ -23,11 +23,11 @@ use Rattle.extremes.proofs.ListLaws.{AllBelow, below-tail, below-cons, 
 
 -- ---- the months from lo to below hi, from the first on
 module _ (l : List ℕ) where
-  months-none : (hi : ℕ) → months hi hi l ≡ []
+  pub months-none : (hi : ℕ) → months hi hi l ≡ []
   unfolding months
   months-none hi = slice-empty hi l
 
-  months-next : (t hi : ℕ) → t < hi → hi ≤ length l → months t hi l ≡ getD l t 0 ∷ months (t + 1) hi l
+  pub months-next : (t hi : ℕ) → t < hi → hi ≤ length l → months t hi l ≡ getD l t 0 ∷ months (t + 1) hi l
   unfolding months
   months-next t hi h k = rw (add-one, slice-cons t hi l 0 h k)
 
@@ -47,12 +47,6 @@ keep-in limit a g h = rw (le-ltb limit (2 * a) h)
 keep-out : (limit a : ℕ) (g : List ℕ) → limit < 2 * a → keep limit (a ∷ g) ≡ keep limit g
 unfolding keep
 keep-out limit a g h = rw (lt-ltb limit (2 * a) h)
-
--- a limit that drops nothing
-pub keep-all : (limit b : ℕ) (g : List ℕ) → 2 * b ≤ limit → AllBelow b g → keep limit g ≡ g
-unfolding keep
-keep-all limit b [] h k = refl
-keep-all limit b (a ∷ g) h k = keep-in limit a g (omega (arith, k .at 0)) ∙ ap (λ (r : List ℕ). a ∷ r) (keep-all limit b g h (below-tail k))
 
 -- fewer months, none larger
 keep-length : (limit : ℕ) (g : List ℕ) → length (keep limit g) ≤ length g
@@ -74,7 +68,7 @@ keep-below limit b (a ∷ g) h = go (ltb limit (2 * a)) (keep-below limit b g (b
     go false i = below-cons (h .at 0) i
 
 -- ---- the sum of the squares, and the spread, of sizes that are at most b
-squares-most : (b : ℕ) (g : List ℕ) → AllBelow b g → squares g ≤ length g * (b * b)
+pub squares-most : (b : ℕ) (g : List ℕ) → AllBelow b g → squares g ≤ length g * (b * b)
 unfolding squares
 squares-most b [] h = omega arith
 squares-most b (a ∷ g) h = omega (arith, mul-le-mul (h .at 0) (h .at 0), squares-most b g (below-tail h), suc-mul (length g) (b * b))

@@ -3,6 +3,7 @@ pub mod ListLaws
 pub mod Bounds
 pub mod Calendar
 pub mod Keeping
+pub mod Running
 pub mod Groups
 pub mod Laws
 pub mod Words

@@ -1,12 +1,15 @@
 -- What the functions ask, and what `weights` promises.
-use Prim.Native.Nat.{ℕ, _≤_}
+use Prim.Native.Nat.{ℕ, _+_, _≤_, _<_}
 use mathlib.Core.Path.{_≡_}
-use mathlib.Core.List.{List, map}
-use lib.ListN.{length}
+use mathlib.Core.Bool.{cond}
+use mathlib.Core.List.{List, _∷_, map}
+use lib.Dec.{leb, ltb}
+use lib.ListN.{length, getD}
 use lib.IntN.{ℤ, pos, natAbs}
-use Rattle.integers.specs.Lists.{AllWithin}
+use Rattle.integers.specs.Lists.{_‼_, tab, AllWithin}
 use Rattle.refusals.specs.Limits.{leastMonths, mostMonths, year}
-use Rattle.extremes.specs.Spreads.{sizesOf}
+use Rattle.extremes.specs.Years.{yearStart, months}
+use Rattle.extremes.specs.Spreads.{sizesOf, squares}
 use Rattle.extremes.specs.Weighing.{weightsOf, answerOf}
 use Rattle.extremes.specs.declared.Weighed.{Weighed}
 
@@ -24,26 +27,55 @@ pub record Calendar (start n : ℕ) : Type 0 where
   pub early : 1 ≤ start
   pub late : start ≤ year
 
+-- running sums: of each month, the sum of the squares of the sizes up to it, its own included
+unfoldable pub runningSquares : List ℕ → List ℕ
+runningSquares sizes = tab (length sizes) (λ t. squares (months 0 (t + 1) sizes))
+
 -- what `weights` asks
-pub record Weighable (start : ℕ) (x work : List ℤ) (out : List ℕ) : Type 0 where
+pub record Weighable (start : ℕ) (x work running : List ℤ) (out : List ℕ) : Type 0 where
   pub calendar : Calendar start (length x)
   pub small : AllWithin largestIrregular x
   pub sizes : length work ≡ length x
+  pub sums : length running ≡ length x
   pub weights : length out ≡ length x
 
--- what it promises: of the answer r, the sizes and the weights as they are left
-pub record Outcome (start : ℕ) (x : List ℤ) (r : Weighed) (work : List ℤ) (out : List ℕ) : Type 0 where
+-- what it promises: of the answer r, the sizes, their running sums and the weights as they are left
+pub record Outcome (start : ℕ) (x : List ℤ) (r : Weighed) (work running : List ℤ) (out : List ℕ) : Type 0 where
   pub answer : r ≡ answerOf start x
   pub sizes : work ≡ map pos (sizesOf x)
+  pub sums : running ≡ map pos (runningSquares (sizesOf x))
   pub weights : out ≡ weightsOf start x
 
--- the sizes that a slice of signed numbers holds
+-- the sizes that a slice of signed numbers holds, and the sum before month t that a slice of running sums holds
 unfoldable pub sizesIn : List ℤ → List ℕ
 sizesIn work = map natAbs work
 
--- of the sizes that a slice holds, not too many nor too large, the months from lo to below hi
+unfoldable pub sumBefore : ℕ → List ℤ → ℕ
+sumBefore t running = getD (0 ∷ map natAbs running) t 0
+
+-- no number of a slice is negative
+pub record Whole (work : List ℤ) : Type 0 where
+  pub at : (t : ℕ) → work ‼ t ≡ pos (natAbs (work ‼ t))
+
+-- sizes that a slice holds: none is negative nor too large
+pub record Sizes (work : List ℤ) : Type 0 where
+  pub whole : Whole work
+  pub small : AllWithin largestSize work
+
+-- of the sizes that a slice holds, not too many, the months from lo to below hi
 pub record Range (lo hi : ℕ) (work : List ℤ) : Type 0 where
   pub order : lo ≤ hi
   pub inside : hi ≤ length work
   pub most : length work ≤ mostMonths
-  pub small : AllWithin largestSize work
+  pub sizes : Sizes work
+
+-- of the running sums that a slice holds, those before lo and before hi
+pub record SumsRange (lo hi : ℕ) (running : List ℤ) : Type 0 where
+  pub order : lo < hi
+  pub inside : hi ≤ length running
+  pub whole : Whole running
+  pub grow : sumBefore lo running ≤ sumBefore hi running
+
+-- the first of n months that the group of year c serves, of the groups of years 2 to the last; n where c is past the last
+unfoldable pub servedFrom : ℕ → ℕ → ℕ → ℕ → ℕ
+servedFrom start n last c = cond (leb c 2) 0 (cond (ltb last c) n (yearStart start n c))

@@ -1,21 +1,19 @@
 // Spreads, weights and corrections: document 01, "Spread and weights". Sizes and spreads are in whole units.
 ghost use mathlib.Core.Path.{_≡_};
 ghost use mathlib.Core.List.{map};
-ghost use Prim.Native.Nat.{_≤_, _<_};
+ghost use Prim.Native.Nat.{_+_, _-_, _/_, _≤_, _<_};
 ghost use lib.ListN.{length, getD};
 ghost use lib.IntN.{pos};
 ghost use Rattle.integers.specs.Sizes.{_within_};
 ghost use Rattle.integers.specs.Lists.{AllWithin};
+ghost use Rattle.integers.specs.Root.{root};
 ghost use Rattle.integers.specs.Rounding.{nearest};
 ghost use Rattle.integers.specs.Filling.{Filled};
 ghost use Rattle.refusals.specs.Limits.{mostMonths, year, fullWeight};
-ghost use Rattle.extremes.specs.Years.{years, yearStart, months, centre, group};
+ghost use Rattle.extremes.specs.Years.{years, yearStart, months, group};
 ghost use Rattle.extremes.specs.Spreads.{sizeOf, sizesOf, keep, remaining, spreadOf};
 ghost use Rattle.extremes.specs.Weighing.{weight, weightBy, weightsBy, answerBy, correctionOf};
-ghost use Rattle.extremes.specs.Contracts.{largestIrregular, largestSize, Calendar, Weighable, Outcome, sizesIn, Range};
-
-// A limit that drops no month: twice the largest size.
-const NO_LIMIT: u64 = 220_000_000;
+ghost use Rattle.extremes.specs.Contracts.{largestIrregular, largestSize, Calendar, Weighable, Outcome, sizesIn, runningSquares, sumBefore, servedFrom, Whole, Sizes, Range, SumsRange};
 
 // A spread, or nothing where there is no month to take it of.
 enum Spread {
@@ -49,15 +47,19 @@ fn year_start(start: usize, n: usize, y: usize) -> usize
     if first < n { first } else { n }
 }
 
-// The year whose group year y uses, of so many years.
-fn centre(count: usize, y: usize) -> usize
-    requires { ⌜ 5 ≤ count ⌝ }
-    ensures { λ r. ⌜ r ≡ centre count y ⌝ }
+// The first of n months that the group of year c serves, and n where c is past the last group.
+// Year 2's group serves the years before it too, the last group the years after it.
+fn served_from(start: usize, n: usize, last: usize, c: usize) -> usize
+    requires { ⌜ (1 ≤ start) × (start ≤ year) × (c ≤ mostMonths) ⌝ }
+    ensures { λ r. ⌜ r ≡ servedFrom start n last c ⌝ }
 {
-    if y < 2 {
-        return 2;
+    if c <= 2 {
+        return 0;
     }
-    if y < count - 3 { y } else { count - 3 }
+    if last < c {
+        return n;
+    }
+    year_start(start, n, c)
 }
 
 // The size of a month's irregular.
@@ -80,10 +82,43 @@ fn fill_sizes(irregular: &[i64], sizes: &mut [i64])
 
 // The size of month t.
 fn size_at(sizes: &[i64], t: usize) -> u64
-    requires { ⌜ (t < length (now sizes)) × AllWithin largestSize (now sizes) ⌝ }
+    requires { ⌜ (t < length (now sizes)) × Sizes (now sizes) ⌝ }
     ensures { λ r. ⌜ (r ≡ getD (sizesIn (now (sizes .entry))) t 0) × (r ≤ largestSize) ⌝ }
 {
-    integers::size(sizes[t])
+    sizes[t] as u64
+}
+
+// The sums of the squares of the sizes up to each month, that month included.
+fn fill_sums(sizes: &[i64], sums: &mut [i64])
+    requires { ⌜ Sizes (now sizes) × (length (now sizes) ≤ mostMonths) × (length (now sums) ≡ length (now sizes)) ⌝ }
+    ensures { λ _. ⌜ now (sums .exit) ≡ map pos (runningSquares (sizesIn (now (sizes .entry)))) ⌝ }
+{
+    let mut sum: u64 = 0;
+    for t in 0..sizes.len() {
+        let a = size_at(sizes, t);
+        sum += a * a;
+        sums[t] = sum as i64;
+    }
+}
+
+// The sum of the squares of the sizes before month t.
+fn sum_before(sums: &[i64], t: usize) -> u64
+    requires { ⌜ (t ≤ length (now sums)) × Whole (now sums) ⌝ }
+    ensures { λ r. ⌜ r ≡ sumBefore t (now (sums .entry)) ⌝ }
+{
+    if t == 0 {
+        return 0;
+    }
+    sums[t - 1] as u64
+}
+
+// The first spread of the months from lo to below hi, all of them, by two of the sums.
+fn first_spread(sums: &[i64], lo: usize, hi: usize) -> u64
+    requires { ⌜ SumsRange lo hi (now sums) ⌝ }
+    ensures { λ r. ⌜ r ≡ root ((sumBefore hi (now (sums .entry)) - sumBefore lo (now (sums .entry))) / (hi - lo)) ⌝ }
+{
+    let sum = sum_before(sums, hi) - sum_before(sums, lo);
+    integers::root(sum / ((hi - lo) as u64))
 }
 
 // The spread of the months from lo to below hi, but for those with twice their size above the limit.
@@ -106,20 +141,15 @@ fn spread_of(sizes: &[i64], lo: usize, hi: usize, limit: u64) -> Spread
     Spread::Of(integers::root(sum / count))
 }
 
-// The second spread of year y.
-fn year_spread(sizes: &[i64], start: usize, y: usize) -> Spread
-    requires { ⌜ Calendar start (length (now sizes)) × AllWithin largestSize (now sizes) ⌝ }
-    ensures { λ r. ⌜ r ≡ spreadOf (remaining (group start (sizesIn (now (sizes .entry))) y)) ⌝ }
+// The second spread of the group of year c.
+fn group_spread(sizes: &[i64], sums: &[i64], start: usize, c: usize) -> Spread
+    requires { ⌜ Calendar start (length (now sizes)) × Sizes (now sizes) × (now sums ≡ map pos (runningSquares (sizesIn (now sizes)))) × (2 ≤ c) × (c + 3 ≤ years start (length (now sizes))) ⌝ }
+    ensures { λ r. ⌜ r ≡ spreadOf (remaining (group start (sizesIn (now (sizes .entry))) c)) ⌝ }
 {
     let n = sizes.len();
-    let c = centre(years(start, n), y);
     let lo = year_start(start, n, c - 2);
     let hi = year_start(start, n, c + 3);
-    let first = spread_of(sizes, lo, hi, NO_LIMIT);
-    let Spread::Of(found) = first else {
-        return Spread::Nothing;
-    };
-    spread_of(sizes, lo, hi, 5 * found)
+    spread_of(sizes, lo, hi, 5 * first_spread(sums, lo, hi))
 }
 
 // n / d to the nearest whole number, a half up.
@@ -130,7 +160,7 @@ fn nearest(n: u64, d: u64) -> u64
     (2 * n + d) / (2 * d)
 }
 
-// The weight of a month by the second spread of its year and its size.
+// The weight of a month by the second spread of its group and its size.
 fn weight(spread: u64, size: u64) -> u16
     requires { ⌜ (spread ≤ largestSize) × (size ≤ largestSize) ⌝ }
     ensures { λ r. ⌜ r ≡ weight spread size ⌝ }
@@ -150,8 +180,8 @@ fn weight(spread: u64, size: u64) -> u16
     (2500 - nearest((refusals::FULL_WEIGHT as u64) * size, spread)) as u16
 }
 
-// The weights of the months from lo to below hi, whose year has this second spread.
-fn fill_year(sizes: &[i64], lo: usize, hi: usize, spread: u64, out: &mut [u16])
+// The weights of the months from lo to below hi, whose group has this second spread.
+fn fill_weights(sizes: &[i64], lo: usize, hi: usize, spread: u64, out: &mut [u16])
     requires { ⌜ Range lo hi (now sizes) × (length (now out) ≡ length (now sizes)) × (spread ≤ largestSize) ⌝ }
     ensures { λ _. ⌜ Filled 0 (weightBy spread (sizesIn (now (sizes .entry)))) lo hi (now (out .entry)) (now (out .exit)) ⌝ }
 {
@@ -160,31 +190,39 @@ fn fill_year(sizes: &[i64], lo: usize, hi: usize, spread: u64, out: &mut [u16])
     }
 }
 
-// Each year's spread once, then the weights of its own months.
-fn weigh_years(sizes: &[i64], start: usize, out: &mut [u16]) -> Weighed
-    requires { ⌜ Calendar start (length (now sizes)) × AllWithin largestSize (now sizes) × (length (now out) ≡ length (now sizes)) ⌝ }
+// Each group's spread once, then the weights of the months that it serves.
+fn weigh_groups(sizes: &[i64], sums: &[i64], start: usize, out: &mut [u16]) -> Weighed
+    requires { ⌜ Calendar start (length (now sizes)) × Sizes (now sizes) × (now sums ≡ map pos (runningSquares (sizesIn (now sizes)))) × (length (now out) ≡ length (now sizes)) ⌝ }
     ensures { λ r. ⌜ (r ≡ answerBy start (sizesIn (now (sizes .entry)))) × (now (out .exit) ≡ weightsBy start (sizesIn (now (sizes .entry)))) ⌝ }
 {
     let n = sizes.len();
-    for y in 0..years(start, n) {
-        let found = year_spread(sizes, start, y);
+    let last = years(start, n) - 3;
+    for c in 2..last + 1 {
+        let found = group_spread(sizes, sums, start, c);
         let Spread::Of(spread) = found else {
             return Weighed::EmptyGroup;
         };
-        let lo = year_start(start, n, y);
-        let hi = year_start(start, n, y + 1);
-        fill_year(sizes, lo, hi, spread, out);
+        let lo = served_from(start, n, last, c);
+        let hi = served_from(start, n, last, c + 1);
+        fill_weights(sizes, lo, hi, spread, out);
     }
     Weighed::Weights
 }
 
-// The weights of an irregular, with a slice to work in.
-pub fn weights(irregular: &[i64], start: u8, sizes: &mut [i64], out: &mut [u16]) -> Weighed
-    requires { ⌜ Weighable start (now irregular) (now sizes) (now out) ⌝ }
-    ensures { λ r. ⌜ Outcome start (now (irregular .entry)) r (now (sizes .exit)) (now (out .exit)) ⌝ }
+// The weights of an irregular, with two slices to work in.
+pub fn weights(
+    irregular: &[i64],
+    start: u8,
+    sizes: &mut [i64],
+    sums: &mut [i64],
+    out: &mut [u16],
+) -> Weighed
+    requires { ⌜ Weighable start (now irregular) (now sizes) (now sums) (now out) ⌝ }
+    ensures { λ r. ⌜ Outcome start (now (irregular .entry)) r (now (sizes .exit)) (now (sums .exit)) (now (out .exit)) ⌝ }
 {
     fill_sizes(irregular, sizes);
-    weigh_years(sizes, start as usize, out)
+    fill_sums(sizes, sums);
+    weigh_groups(sizes, sums, start as usize, out)
 }
 
 // The irregular times (1,000 less its weight) over 1,000.

@@ -4,5 +4,6 @@ pub mod Distances
 pub mod Largest
 pub mod Rows
 pub mod Window
+pub mod Sliding
 pub mod Book
 pub mod Lengths

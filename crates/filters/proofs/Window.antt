@@ -1,47 +1,59 @@
 -- The row and the values that a filter reads are there, and its sum is small.
-use mathlib.Core.Path.{_≡_}
+use mathlib.Core.Path.{_≡_, refl}
+use mathlib.Core.Logic.{_⊎_, inl, inr, ⊎-elim}
 use mathlib.Core.List.{List}
 use Prim.Native.Nat.{ℕ, _+_, _*_, _-_, _/_, _≤_, _<_, min}
-use native.Mathlib.Nat.{le-trans, div-add-mod', mul-le-mul-right, add-mul}
+use native.Mathlib.Nat.{le-trans, le-div-iff-mul-le, div-lt-iff-lt-mul, div-add-mod', mul-le-mul-right, add-mul}
 use native.Mathlib.Omega.{arith}
 use lib.Dec.{T, leb, leb→le}
 use borrow.Author.Tests.{eq-eqb, ne-eqb}
 use lib.ListN.{length}
-use lib.IntN.{ℤ}
+use lib.IntN.{ℤ, pos}
 use Rattle.integers.specs.Sizes.{_within_, w≤}
 use Rattle.integers.specs.Lists.{_‼_}
 use Rattle.integers.specs.Rounding.{toGrain}
+use Rattle.integers.specs.Filling.{Filled, filled-on, filled-tab}
 use Rattle.integers.specs.Sums.{norm, sumN-upto, wsum-within}
-use Rattle.filters.specs.Filter.{Table, weightAt, denominator, before, after, rowAt, dot, weighed, valueAt}
-use Rattle.filters.specs.Asks.{largest, Dots, Filterable, Readable}
+use Rattle.filters.specs.Filter.{Table, weightAt, denominator, before, after, rowAt, dot, weighed, valueAt, filter}
+use Rattle.filters.specs.Asks.{largest, Dots, Filterable, Readable, Served, Serves, ServeInTurn}
 use Rattle.filters.proofs.Tests.{all, all-at}
 
 -- b values precede place t of x, and a follow
-module _ (F : Table) (x : List ℤ) (t b a : ℕ) (h : Readable F) (s : Filterable x) (ht : t < length x)
-    (eb : b ≡ min (t / F .step) (F .half)) (ea : a ≡ min ((length x - 1 - t) / F .step) (F .half)) where
+module _ (F : Table) (x : List ℤ) (t b a : ℕ) (h : Readable F) (s : Filterable x) (v : Served F (length x) b a t) where
+  eb : b ≡ min (t / F .step) (F .half)
+  unfolding before
+  eb = v .earlier-is
+
+  ea : a ≡ min ((length x - 1 - t) / F .step) (F .half)
+  unfolding after
+  ea = v .later-is
+
+  pub few : (b ≤ F .half) × (a ≤ F .half)
+  few = omega (arith, eb, ea)
+
   pub starts : b * F .step ≤ t
-  starts = let l : b ≤ t / F .step = omega arith in omega (arith, mul-le-mul-right (F .step) l, div-add-mod' t (F .step))
+  starts = let l : b ≤ t / F .step = omega (arith, eb) in omega (arith, mul-le-mul-right (F .step) l, div-add-mod' t (F .step))
 
   ends : t + a * F .step < length x
-  ends = let l : a ≤ (length x - 1 - t) / F .step = omega arith in omega (arith, mul-le-mul-right (F .step) l, div-add-mod' (length x - 1 - t) (F .step))
+  ends = let l : a ≤ (length x - 1 - t) / F .step = omega (arith, ea) in omega (arith, v .place, mul-le-mul-right (F .step) l, div-add-mod' (length x - 1 - t) (F .step))
 
   inside : (k : ℕ) → k < b + 1 + a → t - b * F .step + k * F .step < length x
   inside k l = let m : k ≤ b + a = omega arith in omega (arith, starts, ends, mul-le-mul-right (F .step) m, add-mul b a (F .step))
 
   row-room : (b + (F .half - a)) * F .width + (b + 1 + a) ≤ length (F .rows)
-  row-room = let l : b + (F .half - a) ≤ 2 * F .half = omega arith in omega (arith, mul-le-mul-right (F .width) l, h .rows-long)
+  row-room = let l : b + (F .half - a) ≤ 2 * F .half = omega (arith, few) in omega (arith, few, mul-le-mul-right (F .width) l, h .rows-long)
 
   pub dots : Dots (F .rows) ((b + (F .half - a)) * F .width) (b + 1 + a) x (t - b * F .step) (F .step)
   unfolding weightAt
   dots =
       let r = b + (F .half - a) in
       let m = b + 1 + a in
-      record { room = row-room; light = le-trans (sumN-upto m (2 * F .half + 1) _ (omega arith)) (h .light r (omega arith)); places = inside; small = s .small }
+      record { room = row-room; light = le-trans (sumN-upto m (2 * F .half + 1) _ (omega (arith, few))) (h .light r (omega (arith, few))); places = inside; small = s .small }
 
   pub value-is : {sum z : ℤ} (d : ℕ) → sum ≡ dot (b + 1 + a) (λ k. F .rows ‼ ((b + (F .half - a)) * F .width + k)) x (t - b * F .step) (F .step)
       → d ≡ denominator F (b + (F .half - a)) → z ≡ toGrain sum d → z ≡ valueAt F x t
-  unfolding valueAt weighed weightAt rowAt before after
-  value-is {sum} d e f g = rw (← eb, ← ea) (rw (← e, ← f) g)
+  unfolding valueAt weighed weightAt rowAt
+  value-is {sum} d e f g = rw (← (v .earlier-is), ← (v .later-is)) (rw (← e, ← f) g)
 
 pub dot-within : {w : List ℤ} {at m : ℕ} {x : List ℤ} {from step : ℕ} → Dots w at m x from step → dot m (λ k. w ‼ (at + k)) x from step within 2305843009213693951
 unfolding dot
@@ -56,6 +68,76 @@ in-middle F r e = rw (eq-eqb r (F .half) e)
 pub at-ends : (F : Table) (r : ℕ) → (r ≡ F .half → ⊥) → F .ends ≡ denominator F r
 unfolding denominator
 at-ends F r e = rw (ne-eqb r (F .half) e)
+
+-- ---- which row serves a place
+-- of a distance d, b steps are whole, or more than a row takes
+count-is : (step half d b : ℕ) → 1 ≤ step → b ≤ half → b * step ≤ d → (b ≡ half) ⊎ (d < b * step + step) → b ≡ min (d / step) half
+count-is step half d b p l m c = let k : b ≤ d / step = le-div-iff-mul-le p .1 m in ⊎-elim
+    (λ (e : b ≡ half). omega (arith, k))
+    (λ (q : d < b * step + step). let u : d / step < b + 1 = div-lt-iff-lt-mul p .1 (omega (arith, add-mul b 1 step)) in omega (arith, k, u)) c
+
+served : (F : Table) (n b a t : ℕ) → Readable F → t < n → b ≤ F .half → b * F .step ≤ t → (b ≡ F .half) ⊎ (t < b * F .step + F .step)
+    → a ≤ F .half → a * F .step ≤ n - 1 - t → (a ≡ F .half) ⊎ (n - 1 - t < a * F .step + F .step) → Served F n b a t
+unfolding before after
+served F n b a t h l lb mb cb la ma ca = record {
+  place = l;
+  earlier-is = count-is (F .step) (F .half) t b (h .step-least) lb mb cb;
+  later-is = count-is (F .step) (F .half) (n - 1 - t) a (h .step-least) la ma ca;
+}
+
+-- a series that is long enough: the rows before the middle one serve its start, the middle one the inside, the others its end
+module _ (F : Table) (n : ℕ) (h : Readable F) (long : 2 * (F .half * F .step) ≤ n) where
+  pub middle-serves : Serves F n (F .half) (F .half) (F .half * F .step) (n - F .half * F .step)
+  middle-serves = record {
+    order = omega arith;
+    inside = omega arith;
+    each = λ t l m. served F n (F .half) (F .half) t h (omega arith) (omega arith) l (inl refl) (omega arith) (omega arith) (inl refl);
+  }
+
+  pub start-serves : ServeInTurn F n 0 0
+  start-serves = record { rows = omega arith; inside = omega arith; each = each }
+    where
+      each : (k : ℕ) → k < F .half → Serves F n (min (0 + k) (F .half)) (min (2 * F .half - (0 + k)) (F .half)) (0 + k * F .step) (0 + k * F .step + F .step)
+      each k l =
+          let b : min (0 + k) (F .half) ≡ k = omega arith in
+          let a : min (2 * F .half - (0 + k)) (F .half) ≡ F .half = omega arith in
+          let m : k + 1 ≤ F .half = omega arith in
+          let f = mul-le-mul-right (F .step) m in
+          let g = add-mul k 1 (F .step) in
+          rw (b, a) (record {
+            order = omega arith;
+            inside = omega (arith, f, g);
+            each = λ t i j. served F n k (F .half) t h (omega (arith, f, g)) (omega arith) (omega arith) (inr (omega arith)) (omega arith) (omega (arith, f, g)) (inl refl);
+          })
+
+  pub end-serves : ServeInTurn F n (F .half + 1) (n - F .half * F .step)
+  end-serves = record { rows = omega arith; inside = omega arith; each = each }
+    where
+      each : (k : ℕ) → k < F .half → Serves F n (min (F .half + 1 + k) (F .half)) (min (2 * F .half - (F .half + 1 + k)) (F .half)) (n - F .half * F .step + k * F .step) (n - F .half * F .step + k * F .step + F .step)
+      each k l =
+          let j = F .half - 1 - k in
+          let b : min (F .half + 1 + k) (F .half) ≡ F .half = omega arith in
+          let a : min (2 * F .half - (F .half + 1 + k)) (F .half) ≡ j = omega arith in
+          let e : j + (k + 1) ≡ F .half = omega arith in
+          let f : F .half * F .step ≡ (j + (k + 1)) * F .step = rw e in
+          let g = add-mul j (k + 1) (F .step) in
+          let i = add-mul k 1 (F .step) in
+          rw (b, a) (record {
+            order = omega arith;
+            inside = omega (arith, f, g, i);
+            each = λ t u v. served F n (F .half) j t h (omega (arith, f, g, i)) (omega arith) (omega (arith, f, g, i)) (inl refl) (omega arith) (omega (arith, f, g, i)) (inr (omega (arith, f, g, i)));
+          })
+
+-- the start, the inside and the end, filled in turn, are the filter
+pub all-filled : (F : Table) (x : List ℤ) {old a b c : List ℤ} → 2 * (F .half * F .step) ≤ length x → length old ≡ length x
+    → Filled (pos 0) (valueAt F x) 0 (0 + F .half * F .step) old a → Filled (pos 0) (valueAt F x) (F .half * F .step) (length x - F .half * F .step) a b
+    → Filled (pos 0) (valueAt F x) (length x - F .half * F .step) (length x - F .half * F .step + F .half * F .step) b c → c ≡ filter F x
+unfolding filter
+all-filled F x long e start inside end =
+    let r = F .half * F .step in
+    let o : 0 + r ≡ r = omega arith in
+    let m : length x - r + r ≡ length x = omega arith in
+    filled-tab (filled-on (filled-on (rw o at start) inside (omega arith) (omega arith) (λ k l h. refl)) (rw m at end) (omega arith) (omega arith) (λ k l h. refl)) refl e
 
 -- what is asked of a table, as tests that are computed
 abbrev pub Asked : Table → Type 0

@@ -1,12 +1,13 @@
 -- What the code of the filters asks of its arguments. Nothing here is promised to a caller of the desk.
 use mathlib.Core.Path.{_≡_}
 use mathlib.Core.List.{List}
-use Prim.Native.Nat.{ℕ, _+_, _*_, _≤_, _<_}
+use Prim.Native.Nat.{ℕ, _+_, _*_, _-_, _≤_, _<_, min}
 use lib.ListN.{length}
 use lib.IntN.{ℤ}
 use Rattle.integers.specs.Lists.{_‼_, AllWithin}
 use Rattle.integers.specs.Sums.{norm}
-use Rattle.filters.specs.Filter.{Table, weightAt}
+use Rattle.filters.specs.Filter.{Table, weightAt, before, after, dot}
+use Rattle.filters.specs.Tables.{row2x12}
 
 -- no number that is filtered is larger: times the largest norm, 1,300,000, and doubled, it fits in 64 bits
 abbrev pub largest : ℕ
@@ -44,6 +45,28 @@ pub record Readable (F : Table) : Type 0 where
   pub ends-least : 1 ≤ F .ends
   pub middle-most : F .middle ≤ 1_000_000
   pub ends-most : F .ends ≤ 1_000_000
+
+-- place t of n has so many values before and after it that a row can take
+pub record Served (F : Table) (n earlier later t : ℕ) : Type 0 where
+  pub place : t < n
+  pub earlier-is : earlier ≡ before F t
+  pub later-is : later ≡ after F n t
+
+-- so has each place from lo to below hi
+pub record Serves (F : Table) (n earlier later lo hi : ℕ) : Type 0 where
+  pub order : lo ≤ hi
+  pub inside : hi ≤ n
+  pub each : (t : ℕ) → lo ≤ t → t < hi → Served F n earlier later t
+
+-- `half` rows from `row` on serve `step` places each, from place `at` on
+pub record ServeInTurn (F : Table) (n row at : ℕ) : Type 0 where
+  pub rows : row ≤ F .half + 1
+  pub inside : at + F .half * F .step ≤ n
+  pub each : (k : ℕ) → k < F .half → Serves F n (min (row + k) (F .half)) (min (2 * F .half - (row + k)) (F .half)) (at + k * F .step) (at + k * F .step + F .step)
+
+-- the weighted sum of 2×12 over the thirteen values from place i on
+unfoldable pub sum2x12 : List ℤ → ℕ → ℤ
+sum2x12 x i = dot 13 (λ k. row2x12 ‼ (0 + k)) x i 1
 
 -- both slices of a difference
 pub record Minusable (x y : List ℤ) : Type 0 where

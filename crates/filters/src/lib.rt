@@ -6,9 +6,10 @@ ghost use lib.IntN.{pos, _-ℤ_};
 ghost use Rattle.integers.specs.Sizes.{_within_};
 ghost use Rattle.integers.specs.Lists.{_‼_, tab};
 ghost use Rattle.integers.specs.Rounding.{toGrain};
+ghost use Rattle.integers.specs.Filling.{Filled};
 ghost use Rattle.filters.specs.Filter.{dot, valueAt, filter, inside, minus};
 ghost use Rattle.filters.specs.Tables.{table2x12, table3x3, table3x5, tableHenderson};
-ghost use Rattle.filters.specs.Asks.{table, Dots, Filterable, Readable, Minusable};
+ghost use Rattle.filters.specs.Asks.{table, sum2x12, Dots, Filterable, Readable, Served, Serves, ServeInTurn, Minusable};
 
 // The lesser of two numbers.
 fn least(a: usize, b: usize) -> usize
@@ -39,8 +40,8 @@ fn over(sum: i64, d: usize) -> i64
     integers::to_grain(sum, d as i64)
 }
 
-// The filter's value at place t: the row by how many values precede and follow.
-fn value_at(
+// The filter's value at place t by the row for so many values before and after it.
+fn by_row(
     half: usize,
     step: usize,
     width: usize,
@@ -48,20 +49,20 @@ fn value_at(
     middle: usize,
     ends: usize,
     x: &[i64],
+    earlier: usize,
+    later: usize,
     t: usize,
 ) -> i64
-    requires { ⌜ Readable (table half step width (now rows) middle ends) × Filterable (now x) × (t < length (now x)) ⌝ }
+    requires { ⌜ Readable (table half step width (now rows) middle ends) × Filterable (now x) × Served (table half step width (now rows) middle ends) (length (now x)) earlier later t ⌝ }
     ensures { λ r. ⌜ r ≡ valueAt (table half step width (now (rows .entry)) middle ends) (now (x .entry)) t ⌝ }
 {
-    let before = least(t / step, half);
-    let after = least((x.len() - 1 - t) / step, half);
-    let row = before + (half - after);
+    let row = earlier + (half - later);
     let sum = dot(
         rows,
         row * width,
-        before + 1 + after,
+        earlier + 1 + later,
         x,
-        t - before * step,
+        t - earlier * step,
         step,
     );
     if row == half {
@@ -71,8 +72,8 @@ fn value_at(
     }
 }
 
-// The filter at every place, whatever its table.
-fn filter(
+// The filter at the places from lo to below hi, which one row serves: no place asks for its row.
+fn fill_row(
     half: usize,
     step: usize,
     width: usize,
@@ -80,34 +81,78 @@ fn filter(
     middle: usize,
     ends: usize,
     x: &[i64],
+    earlier: usize,
+    later: usize,
+    lo: usize,
+    hi: usize,
     out: &mut [i64],
 )
-    requires { ⌜ Readable (table half step width (now rows) middle ends) × Filterable (now x) × (length (now out) ≡ length (now x)) ⌝ }
-    ensures { λ _. ⌜ now (out .exit) ≡ filter (table half step width (now (rows .entry)) middle ends) (now (x .entry)) ⌝ }
+    requires { ⌜ Readable (table half step width (now rows) middle ends) × Filterable (now x) × Serves (table half step width (now rows) middle ends) (length (now x)) earlier later lo hi × (length (now out) ≡ length (now x)) ⌝ }
+    ensures { λ _. ⌜ Filled (pos 0) (valueAt (table half step width (now (rows .entry)) middle ends) (now (x .entry))) lo hi (now (out .entry)) (now (out .exit)) ⌝ }
 {
-    for t in 0..x.len() {
-        out[t] = value_at(half, step, width, rows, middle, ends, x, t);
+    for t in lo..hi {
+        out[t] = by_row(half, step, width, rows, middle, ends, x, earlier, later, t);
+    }
+}
+
+// The filter by `half` rows in turn, the first of them `row`, from place `at` on: each serves `step` places.
+fn fill_rows(
+    half: usize,
+    step: usize,
+    width: usize,
+    rows: &[i64],
+    middle: usize,
+    ends: usize,
+    x: &[i64],
+    row: usize,
+    at: usize,
+    out: &mut [i64],
+)
+    requires { ⌜ Readable (table half step width (now rows) middle ends) × Filterable (now x) × ServeInTurn (table half step width (now rows) middle ends) (length (now x)) row at × (length (now out) ≡ length (now x)) ⌝ }
+    ensures { λ _. ⌜ Filled (pos 0) (valueAt (table half step width (now (rows .entry)) middle ends) (now (x .entry))) at (at + half * step) (now (out .entry)) (now (out .exit)) ⌝ }
+{
+    for k in 0..half {
+        let earlier = least(row + k, half);
+        let later = least(2 * half - (row + k), half);
+        let lo = at + k * step;
+        fill_row(
+            half,
+            step,
+            width,
+            rows,
+            middle,
+            ends,
+            x,
+            earlier,
+            later,
+            lo,
+            lo + step,
+            out,
+        );
     }
 }
 
 // 2x12, in 24ths.
 const ROW_2X12: [i64; 13] = [1, 2, 2, 2, 2, 2, 2, 2, 2, 2, 2, 2, 1];
 
-// 2x12 at place t, with six on each side.
-fn two_by_twelve_at(x: &[i64], t: usize) -> i64
-    requires { ⌜ Filterable (now x) × (t < length (now x)) ⌝ }
-    ensures { λ r. ⌜ r ≡ valueAt table2x12 (now (x .entry)) t ⌝ }
+// The weighted sum of the thirteen values from place i on, from that of the place before: two values leave and two come in.
+fn next_sum(sum: i64, x: &[i64], i: usize) -> i64
+    requires { ⌜ Filterable (now x) × (1 ≤ i) × (i + 12 < length (now x)) × (sum ≡ sum2x12 (now x) (i - 1)) ⌝ }
+    ensures { λ r. ⌜ r ≡ sum2x12 (now (x .entry)) i ⌝ }
 {
-    value_at(6, 1, 0, &ROW_2X12, 24, 24, x, t)
+    sum + (x[i + 11] + x[i + 12] - (x[i - 1] + x[i]))
 }
 
 // 2x12 at every place with six on each side: out[i] is that of place i + 6.
 pub fn two_by_twelve(x: &[i64], out: &mut [i64])
-    requires { ⌜ Filterable (now x) × (length (now out) + 12 ≡ length (now x)) ⌝ }
+    requires { ⌜ Filterable (now x) × (13 ≤ length (now x)) × (length (now out) + 12 ≡ length (now x)) ⌝ }
     ensures { λ _. ⌜ now (out .exit) ≡ inside table2x12 (now (x .entry)) ⌝ }
 {
-    for i in 0..out.len() {
-        out[i] = two_by_twelve_at(x, i + 6);
+    let mut sum = dot(&ROW_2X12, 0, 13, x, 0, 1);
+    out[0] = over(sum, 24);
+    for i in 1..out.len() {
+        sum = next_sum(sum, x, i);
+        out[i] = over(sum, 24);
     }
 }
 
@@ -140,12 +185,15 @@ const ROWS_3X3: [i64; 25] = [
     0,
 ];
 
-// 3x3 of each month's run, read at stride twelve.
+// 3x3 of each month's run, read at stride twelve: by the rows for the start, the middle row and the rows for the end.
 pub fn three_by_three(x: &[i64], out: &mut [i64])
-    requires { ⌜ Filterable (now x) × (length (now out) ≡ length (now x)) ⌝ }
+    requires { ⌜ Filterable (now x) × (48 ≤ length (now x)) × (length (now out) ≡ length (now x)) ⌝ }
     ensures { λ _. ⌜ now (out .exit) ≡ filter table3x3 (now (x .entry)) ⌝ }
 {
-    filter(2, 12, 5, &ROWS_3X3, 27, 27, x, out);
+    let e = x.len() - 24;
+    fill_rows(2, 12, 5, &ROWS_3X3, 27, 27, x, 0, 0, out);
+    fill_row(2, 12, 5, &ROWS_3X3, 27, 27, x, 2, 2, 24, e, out);
+    fill_rows(2, 12, 5, &ROWS_3X3, 27, 27, x, 3, e, out);
 }
 
 // 3x5, in 60ths: three first, the middle, three last.
@@ -201,12 +249,15 @@ const ROWS_3X5: [i64; 49] = [
     0,
 ];
 
-// 3x5 of each month's run, read at stride twelve.
+// 3x5 of each month's run, read at stride twelve: by rows as above.
 pub fn three_by_five(x: &[i64], out: &mut [i64])
-    requires { ⌜ Filterable (now x) × (length (now out) ≡ length (now x)) ⌝ }
+    requires { ⌜ Filterable (now x) × (72 ≤ length (now x)) × (length (now out) ≡ length (now x)) ⌝ }
     ensures { λ _. ⌜ now (out .exit) ≡ filter table3x5 (now (x .entry)) ⌝ }
 {
-    filter(3, 12, 7, &ROWS_3X5, 60, 60, x, out);
+    let e = x.len() - 36;
+    fill_rows(3, 12, 7, &ROWS_3X5, 60, 60, x, 0, 0, out);
+    fill_row(3, 12, 7, &ROWS_3X5, 60, 60, x, 3, 3, 36, e, out);
+    fill_rows(3, 12, 7, &ROWS_3X5, 60, 60, x, 4, e, out);
 }
 
 // Henderson's 13 terms over 16,796, between Musgrave's six rows for the start and six for the end, in millionths.
@@ -382,12 +433,28 @@ const ROWS_HENDERSON: [i64; 169] = [
     0,
 ];
 
-// Henderson's 13 terms, with Musgrave's ends.
+// Henderson's 13 terms, with Musgrave's ends: by rows as above.
 pub fn henderson(x: &[i64], out: &mut [i64])
-    requires { ⌜ Filterable (now x) × (length (now out) ≡ length (now x)) ⌝ }
+    requires { ⌜ Filterable (now x) × (12 ≤ length (now x)) × (length (now out) ≡ length (now x)) ⌝ }
     ensures { λ _. ⌜ now (out .exit) ≡ filter tableHenderson (now (x .entry)) ⌝ }
 {
-    filter(6, 1, 13, &ROWS_HENDERSON, 16796, 1000000, x, out);
+    let e = x.len() - 6;
+    fill_rows(6, 1, 13, &ROWS_HENDERSON, 16796, 1000000, x, 0, 0, out);
+    fill_row(
+        6,
+        1,
+        13,
+        &ROWS_HENDERSON,
+        16796,
+        1000000,
+        x,
+        6,
+        6,
+        6,
+        e,
+        out,
+    );
+    fill_rows(6, 1, 13, &ROWS_HENDERSON, 16796, 1000000, x, 7, e, out);
 }
 
 // One number less another.

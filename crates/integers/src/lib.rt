@@ -1,5 +1,6 @@
 // Whole-number functions that the other crates call: rounding, size, root.
 ghost use mathlib.Core.Path.{_≡_};
+ghost use Prim.Native.Nat.{_*_, _≤_, _<_};
 ghost use lib.IntN.{natAbs};
 ghost use Rattle.integers.specs.Rounding.{awayFromZero, toGrain};
 ghost use Rattle.integers.specs.Root.{root};
@@ -32,12 +33,19 @@ pub fn size(x: i64) -> u64
     if x < 0 { (-1 - x) as u64 + 1 } else { x as u64 }
 }
 
+// A power of two whose square is above x: its exponent is half the number of x's bits, rounded up.
+fn above(x: u64) -> u64
+    ensures { λ r. ⌜ (x < r * r) × (1 ≤ r) × (r ≤ 4294967296) ⌝ }
+{
+    1u64 << ((65 - u64::leading_zeros(x)) / 2)
+}
+
 // The greatest whole number whose square is not above x: lo is not too large, hi is.
 pub fn root(x: u64) -> u64
     ensures { λ r. ⌜ r ≡ root x ⌝ }
 {
     let mut lo: u64 = 0;
-    let mut hi: u64 = 4294967296;
+    let mut hi = above(x);
     let found = loop {
         if hi - lo <= 1 {
             break lo;

@@ -110,6 +110,7 @@ module _ {x : List ℤ} (s : Series x) where
 
   pub adjustable : {o : List ℤ} → o ≡ S1 x → Adjustable x o
   adjustable e = rw e (record {
+    long = s .long;
     both = record {
       short = s .short;
       long = length-s1 x (omega (arith, s .long));

@@ -32,6 +32,7 @@ pub record Lent (x p q r out : List ℤ) : Type 0 where
 
 -- a series and a seasonal, and what is left of the series without it
 pub record Adjustable (x s : List ℤ) : Type 0 where
+  pub long : leastMonths ≤ length x
   pub both : Minusable x s
   pub less : AllWithin largest (minus x s)
 

@@ -27,10 +27,10 @@ minus-requires c κs = let d = c .before .before .before .before in let p = d .b
     (minusable (s .pre .0) (p .one-pass .ensures .seasonal) (d .adjusted .ensures) (p .one-pass .ensures .trend), omega (arith, s .pre .1))
 
 weights-requires : tie.Need-weights-requires
-weights-requires c κs = let m = c .before .before .before .before in let s = m .before .before .before .before .before .before .before .before .before .before .before .before .before .before .before .before .before .before .before in weighable (s .pre .0) (is-irregular m) (omega (arith, s .pre .1)) (s .pre .2)
+weights-requires c κs = let m = c .before .before .before .before .before in let s = m .before .before .before .before .before .before .before .before .before .before .before .before .before .before .before .before .before .before .before in weighable (s .pre .0) (is-irregular m) (omega (arith, s .pre .1)) (omega (arith, s .pre .1)) (s .pre .2)
 
 corrected-requires : tie.Need-corrected-requires
-corrected-requires c κs = let g = c .before .before .before .before .before .before in let m = g .before .before .before .before .before in let s = m .before .before .before .before .before .before .before .before .before .before .before .before .before .before .before .before .before .before .before in
+corrected-requires c κs = let g = c .before .before .before .before .before .before .before in let m = g .before .before .before .before .before .before in let s = m .before .before .before .before .before .before .before .before .before .before .before .before .before .before .before .before .before .before .before in
     (weighted (s .pre .0) (is-irregular m) (g .weights .ensures .weights), s .pre .0 .x-long)
 
 same-length : tie.Need-same-length
@@ -52,7 +52,7 @@ same-length-6 : tie.Need-same-length-6
 same-length-6 c = search needs
 
 returns : tie.Need-returns
-returns c = let g = c .before .before .before .before .before .before .before .before in let m = g .before .before .before .before .before in let s = m .before .before .before .before .before .before .before .before .before .before .before .before .before .before .before .before .before .before .before in
+returns c = let g = c .before .before .before .before .before .before .before .before .before in let m = g .before .before .before .before .before .before in let s = m .before .before .before .before .before .before .before .before .before .before .before .before .before .before .before .before .before .before .before in
     revision (s .pre .0) (is-irregular m) (g .weights .ensures .answer) (g .weights .ensures .weights) (c .before .corrected .ensures)
 
 pub revise-spec : {M : Type 1} → statement M

@@ -25,7 +25,7 @@ loop-holds : tie.Need-loop-holds Inv-loop μ-loop
 loop-holds c = (omega arith, omega arith, record { total = omega arith; number = omega arith })
 
 size-at-requires : tie.Need-size-at-requires Inv-loop μ-loop
-size-at-requires c κs = (omega arith, c .before .before .pre .small)
+size-at-requires c κs = (omega arith, c .before .before .pre .sizes)
 
 mul-if1 : tie.Need-mul-if1 Inv-loop μ-loop
 mul-if1 c = omega (arith, c .size-at .ensures .1)

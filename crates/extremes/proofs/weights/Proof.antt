@@ -1,17 +1,18 @@
--- `extremes::weights` meets its contract: the work slice holds the sizes of the irregular, and is weighed by them.
+-- `extremes::weights` meets its contract: the work slices hold the sizes of the irregular and their running sums, and it is weighed by them.
 -- Assumes nothing.
-use Prim.Native.Nat.{ℕ}
+use Prim.Native.Nat.{ℕ, _≤_}
 use mathlib.Core.Path.{_≡_, sym, ap, subst⁻¹, _∙_}
 use mathlib.Core.List.{List, map}
+use native.Mathlib.Omega.{arith}
 use lib.ListN.{length}
 use lib.IntN.{ℤ, pos}
 use borrow.Author.Needs.{needs}
-use Rattle.integers.specs.Lists.{AllWithin}
+use Rattle.refusals.specs.Limits.{mostMonths}
 use Rattle.extremes.specs.Spreads.{sizesOf}
 use Rattle.extremes.specs.Weighing.{weightsBy, weightsOf, answerBy, answerOf}
-use Rattle.extremes.specs.Contracts.{largestSize, Calendar, Weighable, Outcome, sizesIn}
+use Rattle.extremes.specs.Contracts.{Calendar, Weighable, Outcome, sizesIn, runningSquares, Sizes}
 use Rattle.extremes.specs.declared.Weighed.{Weighed}
-use Rattle.extremes.proofs.Groups.{sizes-held, length-held, held-small}
+use Rattle.extremes.proofs.Groups.{sizes-held, length-held, held-sizes}
 use Rattle.extremes.proofs.weights.Statement.{statement}
 use Rattle.extremes.proofs.weights.Tie as tie
 
@@ -22,18 +23,36 @@ module _ (x : List ℤ) {work : List ℤ} (e : work ≡ map pos (sizesOf x)) whe
   sizes-found : sizesIn work ≡ sizesOf x
   sizes-found = ap sizesIn e ∙ sizes-held x
 
-  asked : {start : ℕ} {before : List ℤ} {out : List ℕ} → Weighable start x before out → Calendar start (length work) × AllWithin largestSize work × (length out ≡ length work)
-  asked {start} p = (subst⁻¹ (Calendar start) months-held (p .calendar), subst⁻¹ (AllWithin largestSize) e (held-small (p .small)), p .weights ∙ sym months-held)
+  module _ {start : ℕ} {sizes sums : List ℤ} {out : List ℕ} (p : Weighable start x sizes sums out) where
+    sizes-in : Sizes work
+    sizes-in = subst⁻¹ Sizes e (held-sizes (p .small))
 
-  promised : {start : ℕ} {r : Weighed} {out : List ℕ} → r ≡ answerBy start (sizesIn work) → out ≡ weightsBy start (sizesIn work) → Outcome start x r work out
+    summed : Sizes work × (length work ≤ mostMonths) × (length sums ≡ length work)
+    summed = (sizes-in, omega (arith, months-held, p .calendar .most), p .sums ∙ sym months-held)
+
+    weighed : {running : List ℤ} → running ≡ map pos (runningSquares (sizesIn work))
+        → Calendar start (length work) × Sizes work × (running ≡ map pos (runningSquares (sizesIn work))) × (length out ≡ length work)
+    weighed f = (subst⁻¹ (Calendar start) months-held (p .calendar), sizes-in, f, p .weights ∙ sym months-held)
+
+  promised : {start : ℕ} {r : Weighed} {running : List ℤ} {out : List ℕ} → running ≡ map pos (runningSquares (sizesIn work)) → r ≡ answerBy start (sizesIn work) → out ≡ weightsBy start (sizesIn work)
+      → Outcome start x r work running out
   unfolding answerOf weightsOf
-  promised {start} a w = record { answer = a ∙ ap (answerBy start) sizes-found; sizes = e; weights = w ∙ ap (weightsBy start) sizes-found }
+  promised {start} f a w = record {
+    answer = a ∙ ap (answerBy start) sizes-found;
+    sizes = e;
+    sums = f ∙ ap (λ (l : List ℕ). map pos (runningSquares l)) sizes-found;
+    weights = w ∙ ap (weightsBy start) sizes-found;
+  }
 
 fill-sizes-requires : tie.Need-fill-sizes-requires
 fill-sizes-requires c κs = search needs
 
-weigh-years-requires : tie.Need-weigh-years-requires
-weigh-years-requires c κs = let s = c .before .before .before .before .before .before in asked (s .args .irregular .now) (c .before .before .before .fill-sizes .ensures) (s .pre)
+fill-sums-requires : tie.Need-fill-sums-requires
+fill-sums-requires c κs = let f = c .before .before .before in let s = f .before .before .before in summed (s .args .irregular .now) (f .fill-sizes .ensures) (s .pre)
+
+weigh-groups-requires : tie.Need-weigh-groups-requires
+weigh-groups-requires c κs = let u = c .before .before .before .before in let f = u .before .before .before .before in let s = f .before .before .before in
+    weighed (s .args .irregular .now) (f .fill-sizes .ensures) (s .pre) (u .fill-sums .ensures)
 
 same-length : tie.Need-same-length
 same-length c = search needs
@@ -41,15 +60,21 @@ same-length c = search needs
 same-length-2 : tie.Need-same-length-2
 same-length-2 c = search needs
 
+same-length-3 : tie.Need-same-length-3
+same-length-3 c = search needs
+
 returns : tie.Need-returns
-returns c = let w = c .before .before in promised (w .before .before .before .before .before .before .before .args .irregular .now) (w .before .before .before .before .fill-sizes .ensures) (w .weigh-years .ensures .0) (w .weigh-years .ensures .1)
+returns c = let w = c .before .before in let u = w .before .before .before .before .before in let f = u .before .before .before .before in
+    promised (f .before .before .before .args .irregular .now) (f .fill-sizes .ensures) (u .fill-sums .ensures) (w .weigh-groups .ensures .0) (w .weigh-groups .ensures .1)
 
 pub weights-spec : {M : Type 1} → statement M
 weights-spec =
     tie.close
     (tie.spec
     fill-sizes-requires
-    weigh-years-requires
+    fill-sums-requires
+    weigh-groups-requires
     same-length
     same-length-2
+    same-length-3
     returns)

@@ -14,6 +14,9 @@ Inv-loop x lo₀ hi₀ lo hi = (lo < hi) × (hi ≤ 4294967296) × (lo * lo ≤ 
 abbrev μ-loop : tie.MeasureT-loop
 μ-loop x lo₀ hi₀ lo hi = hi - lo
 
+above-requires : tie.Need-above-requires Inv-loop μ-loop
+above-requires c κs = tt
+
 loop-holds : tie.Need-loop-holds Inv-loop μ-loop
 loop-holds c = omega arith
 
@@ -46,7 +49,7 @@ returns : tie.Need-returns Inv-loop μ-loop
 returns c =
     let at = c .before .loop in
     let next : at .hi ≡ at .lo + 1 = omega arith in
-    root-unique (record { low = at .inv .2; high = subst (λ (h : ℕ). c .before .before .args .x < h * h) next (at .inv .3) })
+    root-unique (record { low = at .inv .2; high = subst (λ (h : ℕ). c .before .before .before .args .x < h * h) next (at .inv .3) })
 
 pub root-spec : {M : Type 1} → statement M
 root-spec =
@@ -54,6 +57,7 @@ root-spec =
     (tie.spec
     Inv-loop
     μ-loop
+    above-requires
     loop-holds
     sub-if1
     add-mid

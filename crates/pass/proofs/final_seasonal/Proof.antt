@@ -45,7 +45,7 @@ minus-requires : tie.Need-minus-requires
 minus-requires c κs = let s = c .before .pre in (minusable2 (s .0) (s .1), s .2 .a-long)
 
 three-by-five-requires : tie.Need-three-by-five-requires
-three-by-five-requires c κs = let p = c .before .before .before in let s = p .before .before .pre in (si2-filterable (s .0) (is-si2 p), omega (arith, s))
+three-by-five-requires c κs = let p = c .before .before .before in let s = p .before .before .pre in (si2-filterable (s .0) (is-si2 p), omega (arith, s, s .0 .long), omega (arith, s))
 
 slice-relend-prefix-two-by-twelve : tie.Need-slice-relend-prefix-two-by-twelve
 slice-relend-prefix-two-by-twelve c = search needs
@@ -55,7 +55,7 @@ slice-aggregate-two-by-twelve c = let s = c .before .before .before .before .bef
 
 two-by-twelve-requires : tie.Need-two-by-twelve-requires
 two-by-twelve-requires c κs = let p = c .before .before .before in let d = p .before .before .before .before in let s = d .before .before in
-    (r2-filterable (s .pre .0) (is-r2 p), front-more (length (s .args .x .now) - 12) (d .minus .last .1 .1 .0) (omega (arith, s .pre)) 12 _ (omega (arith, s .pre, s .pre .0 .long)))
+    (r2-filterable (s .pre .0) (is-r2 p), omega (arith, s .pre, s .pre .0 .long), front-more (length (s .args .x .now) - 12) (d .minus .last .1 .1 .0) (omega (arith, s .pre)) 12 _ (omega (arith, s .pre, s .pre .0 .long)))
 
 slice-reshare-prefix-less-level : tie.Need-slice-reshare-prefix-less-level
 slice-reshare-prefix-less-level c = search needs

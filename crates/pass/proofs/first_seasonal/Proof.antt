@@ -19,7 +19,7 @@ sub-e : tie.Need-sub-e
 sub-e c = search needs
 
 two-by-twelve-requires : tie.Need-two-by-twelve-requires
-two-by-twelve-requires c κs = let s = c .before .pre in (x-filterable (s .0), s .1 .p-long)
+two-by-twelve-requires c κs = let s = c .before .pre in (x-filterable (s .0), omega (arith, s .0 .long), s .1 .p-long)
 
 sub-minus : tie.Need-sub-minus
 sub-minus c = search needs
@@ -35,10 +35,10 @@ minus-requires c κs = let t = c .before .before .before .before in let s = t .b
     (parts1 (s .0) (t .two-by-twelve .ensures), omega (arith, s, parts1 (s .0) (t .two-by-twelve .ensures) .long))
 
 three-by-three-requires : tie.Need-three-by-three-requires
-three-by-three-requires c κs = let p = c .before .before .before in let s = p .before .before .before .before .before .before .before .pre in (si1-filterable (s .0) (is-si1 p), omega (arith, s))
+three-by-three-requires c κs = let p = c .before .before .before in let s = p .before .before .before .before .before .before .before .pre in (si1-filterable (s .0) (is-si1 p), omega (arith, s, s .0 .long), omega (arith, s))
 
 two-by-twelve-requires-2 : tie.Need-two-by-twelve-requires-2
-two-by-twelve-requires-2 c κs = let p = c .before .before .before in let s = p .before .before .before .before .before .before .before .before .before .before .before .pre in (r1-filterable (s .0) (is-r1 p), omega (arith, s))
+two-by-twelve-requires-2 c κs = let p = c .before .before .before in let s = p .before .before .before .before .before .before .before .before .before .before .before .pre in (r1-filterable (s .0) (is-r1 p), omega (arith, s, s .0 .long), omega (arith, s))
 
 less-level-requires : tie.Need-less-level-requires
 less-level-requires c κs = let m = c .before .before .before .before in let p = m .before .before .before .before in let s = p .before .before .before .before .before .before .before .before .before .before .before .pre in

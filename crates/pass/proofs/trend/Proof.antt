@@ -14,7 +14,7 @@ minus-requires c κs = search needs
 
 henderson-requires : tie.Need-henderson-requires
 henderson-requires c κs = let m = c .before .before .before in let s = m .before .before in
-    (less-filterable (s .pre .0) (m .minus .ensures), omega (arith, s .pre))
+    (less-filterable (s .pre .0) (m .minus .ensures), omega (arith, s .pre, s .pre .0 .long), omega (arith, s .pre))
 
 same-length : tie.Need-same-length
 same-length c = search needs

@@ -1,4 +1,4 @@
--- `extremes::fill_year` meets its contract: the months passed have their weights by this spread.
+-- `extremes::fill_weights` meets its contract: the months passed have their weights by this spread.
 -- Assumes nothing.
 use Prim.Native.Nat.{_≤_, _-_}
 use mathlib.Core.Path.{_≡_, ap, _∙_}
@@ -6,8 +6,8 @@ use native.Mathlib.Omega.{arith}
 use Rattle.integers.specs.Filling.{Filled, filled-none, filled-more}
 use Rattle.extremes.specs.Weighing.{weight, weightBy}
 use Rattle.extremes.specs.Contracts.{sizesIn}
-use Rattle.extremes.proofs.fill_year.Statement.{statement}
-use Rattle.extremes.proofs.fill_year.Tie as tie
+use Rattle.extremes.proofs.fill_weights.Statement.{statement}
+use Rattle.extremes.proofs.fill_weights.Tie as tie
 
 abbrev Inv-loop : tie.InvT-loop
 Inv-loop sizes lo hi spread out₀ t₀ out t = (lo ≤ t) × (t ≤ hi) × Filled 0 (weightBy spread (sizesIn sizes)) lo t out₀ out
@@ -19,7 +19,7 @@ loop-holds : tie.Need-loop-holds Inv-loop μ-loop
 loop-holds c = (omega arith, omega arith, filled-none)
 
 size-at-requires : tie.Need-size-at-requires Inv-loop μ-loop
-size-at-requires c κs = (omega arith, c .before .before .before .pre .0 .small)
+size-at-requires c κs = (omega arith, c .before .before .before .pre .0 .sizes)
 
 weight-requires : tie.Need-weight-requires Inv-loop μ-loop
 weight-requires c κs = (c .before .before .before .before .pre .2, c .size-at .ensures .1)
@@ -48,8 +48,8 @@ returns : tie.Need-returns Inv-loop μ-loop
 returns c = let s = c .before .before .before .args in let l = c .before .loop in let e : l .t ≡ s .hi = omega arith in
     rw e at (l .inv .2)
 
-pub fill-year-spec : {M : Type 1} → statement M
-fill-year-spec =
+pub fill-weights-spec : {M : Type 1} → statement M
+fill-weights-spec =
     tie.close
     (tie.spec
     Inv-loop
