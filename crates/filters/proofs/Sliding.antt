@@ -10,7 +10,7 @@ use Rattle.integers.specs.Sizes.{_within_}
 use Rattle.integers.specs.Lists.{_‼_}
 use Rattle.integers.specs.Rounding.{toGrain}
 use Rattle.integers.specs.Sums.{sumZ, sumN, wsum, sum-same, wsum-within}
-use Rattle.filters.specs.Filter.{weightAt, before, after, rowAt, denominator, weighed, dot, valueAt}
+use Rattle.filters.specs.Filter.{weightAt, denominator, dot, valueAt}
 use Rattle.filters.specs.Tables.{row2x12, table2x12}
 use Rattle.filters.specs.Asks.{largest, Filterable, sum2x12}
 use Rattle.filters.proofs.Window.{readable, middle-serves, value-is}

@@ -12,7 +12,7 @@ use lib.IntN.{ℤ, pos}
 use Rattle.integers.specs.Sizes.{_within_, w≤}
 use Rattle.integers.specs.Lists.{_‼_}
 use Rattle.integers.specs.Rounding.{toGrain}
-use Rattle.integers.specs.Filling.{Filled, filled-on, filled-tab}
+use Rattle.integers.specs.Filling.{Filled, filled-three}
 use Rattle.integers.specs.Sums.{norm, sumN-upto, wsum-within}
 use Rattle.filters.specs.Filter.{Table, weightAt, denominator, before, after, rowAt, dot, weighed, valueAt, filter}
 use Rattle.filters.specs.Asks.{largest, Dots, Filterable, Readable, Served, Serves, ServeInTurn}
@@ -137,7 +137,7 @@ all-filled F x long e start inside end =
     let r = F .half * F .step in
     let o : 0 + r ≡ r = omega arith in
     let m : length x - r + r ≡ length x = omega arith in
-    filled-tab (filled-on (filled-on (rw o at start) inside (omega arith) (omega arith) (λ k l h. refl)) (rw m at end) (omega arith) (omega arith) (λ k l h. refl)) refl e
+    filled-three (rw o at start) inside (rw m at end) (omega arith) (omega arith) e (λ k l. refl) (λ k l h. refl) (λ k l h. refl)
 
 -- what is asked of a table, as tests that are computed
 abbrev pub Asked : Table → Type 0

@@ -1,7 +1,7 @@
 -- What the code of a pass asks of its arguments. Nothing here is promised to a caller of the desk.
 use mathlib.Core.Path.{_≡_}
 use mathlib.Core.List.{List}
-use Prim.Native.Nat.{_+_, _≤_}
+use Prim.Native.Nat.{ℕ, _+_, _*_, _-_, _≤_, _<_}
 use lib.ListN.{length}
 use lib.IntN.{ℤ}
 use Rattle.integers.specs.Lists.{AllWithin}
@@ -22,6 +22,16 @@ pub record Levels (r m : List ℤ) : Type 0 where
   pub fewer : length m + 12 ≡ length r
   pub left : AllWithin largest r
   pub right : AllWithin largest m
+
+-- a stretch of places from lo to below hi of n, and where each looks in another list of k: at place i from lo, and at each further place
+-- `step` places on
+unfoldable pub along : ℕ → ℕ → ℕ → ℕ → ℕ
+along i step lo t = i + step * (t - lo)
+
+pub record Along (i step lo hi n k : ℕ) : Type 0 where
+  pub order : lo ≤ hi
+  pub inside : hi ≤ n
+  pub each : (t : ℕ) → lo ≤ t → t < hi → along i step lo t < k
 
 -- the work slices of steps 1 to 4
 pub record Lent (x p q r out : List ℤ) : Type 0 where

@@ -2,36 +2,32 @@
 ghost use mathlib.Core.Path.{_≡_};
 ghost use Prim.Native.Nat.{_+_, _-_, _≤_, _<_};
 ghost use lib.ListN.{length};
-ghost use lib.IntN.{_-ℤ_};
+ghost use lib.IntN.{pos, _-ℤ_};
+ghost use Rattle.integers.specs.Filling.{Filled};
 ghost use Rattle.integers.specs.Lists.{_‼_};
 ghost use Rattle.filters.specs.Filter.{filter, minus, pick};
 ghost use Rattle.filters.specs.Tables.{tableHenderson};
 ghost use Rattle.pass.specs.Steps.{T2, S1, S2};
-ghost use Rattle.pass.specs.Places.{nearest, copied, widened};
+ghost use Rattle.pass.specs.Places.{nearest, widened};
 ghost use Rattle.pass.specs.Passed.{Passed};
-ghost use Rattle.pass.specs.Asks.{Series, Levels, Lent, Adjustable, Work};
+ghost use Rattle.pass.specs.Asks.{along, Along, Series, Levels, Lent, Adjustable, Work};
 
-// The number of the 2x12 value nearest to place t of n.
-fn nearest_at(n: usize, t: usize) -> usize
-    requires { ⌜ (13 ≤ n) × (n ≤ 600) × (t < n) ⌝ }
-    ensures { λ r. ⌜ (r ≡ nearest n t) × (r + 12 < n) ⌝ }
+// r at place t less level i.
+fn less_at(r: &[i64], m: &[i64], t: usize, i: usize) -> i64
+    requires { ⌜ Levels (now r) (now m) × (t < length (now r)) × (i < length (now m)) ⌝ }
+    ensures { λ z. ⌜ z ≡ (now (r .entry) ‼ t) -ℤ (now (m .entry) ‼ i) ⌝ }
 {
-    if t < 6 {
-        return 0;
-    }
-    if t < n - 6 {
-        return t - 6;
-    }
-    n - 13
+    r[t] - m[i]
 }
 
-// r at place t less the level nearest to it.
-fn less_level_at(r: &[i64], m: &[i64], t: usize) -> i64
-    requires { ⌜ Levels (now r) (now m) × (t < length (now r)) ⌝ }
-    ensures { λ z. ⌜ z ≡ (now (r .entry) ‼ t) -ℤ (now (m .entry) ‼ nearest (length (now (r .entry))) t) ⌝ }
+// r less its levels, at the places from lo to below hi: level i at the first, and at each further place `step` levels on.
+fn less_from(r: &[i64], m: &[i64], i: usize, step: usize, lo: usize, hi: usize, out: &mut [i64])
+    requires { ⌜ Levels (now r) (now m) × Along i step lo hi (length (now r)) (length (now m)) × (length (now out) ≡ length (now r)) ⌝ }
+    ensures { λ _. ⌜ Filled (pos 0) (λ t. (now (r .entry) ‼ t) -ℤ (now (m .entry) ‼ along i step lo t)) lo hi (now (out .entry)) (now (out .exit)) ⌝ }
 {
-    let i = nearest_at(r.len(), t);
-    r[t] - m[i]
+    for t in lo..hi {
+        out[t] = less_at(r, m, t, i + step * (t - lo));
+    }
 }
 
 // r less its 2x12 values m, the nearest of them repeated at both ends.
@@ -39,23 +35,20 @@ fn less_level(r: &[i64], m: &[i64], out: &mut [i64])
     requires { ⌜ Levels (now r) (now m) × (length (now out) ≡ length (now r)) ⌝ }
     ensures { λ _. ⌜ now (out .exit) ≡ minus (now (r .entry)) (pick (length (now (r .entry))) (nearest (length (now (r .entry)))) (now (m .entry))) ⌝ }
 {
-    for t in 0..r.len() {
-        out[t] = less_level_at(r, m, t);
-    }
+    let n = r.len();
+    less_from(r, m, 0, 0, 0, 6, out);
+    less_from(r, m, 0, 1, 6, n - 6, out);
+    less_from(r, m, n - 13, 0, n - 6, n, out);
 }
 
-// Which of the numbers for the middle months month t of n takes.
-fn copied_at(n: usize, t: usize) -> usize
-    requires { ⌜ (24 ≤ n) × (n ≤ 600) × (t < n) ⌝ }
-    ensures { λ r. ⌜ (r ≡ copied n t) × (r + 12 < n) ⌝ }
+// The places from lo to below hi copy s from place i on.
+fn copy_from(s: &[i64], i: usize, lo: usize, hi: usize, out: &mut [i64])
+    requires { ⌜ Along i 1 lo hi (length (now out)) (length (now s)) × (length (now out) ≤ 600) ⌝ }
+    ensures { λ _. ⌜ Filled (pos 0) (λ t. now (s .entry) ‼ along i 1 lo t) lo hi (now (out .entry)) (now (out .exit)) ⌝ }
 {
-    if t < 6 {
-        return t + 12 - 6;
+    for t in lo..hi {
+        out[t] = s[i + (t - lo)];
     }
-    if t < n - 6 {
-        return t - 6;
-    }
-    t - 12 - 6
 }
 
 // All months from the middle ones: the first six copy those twelve months later, the last six those twelve months earlier.
@@ -64,10 +57,9 @@ fn widen(s: &[i64], out: &mut [i64])
     ensures { λ _. ⌜ now (out .exit) ≡ widened (now (s .entry)) ⌝ }
 {
     let n = out.len();
-    for t in 0..n {
-        let i = copied_at(n, t);
-        out[t] = s[i];
-    }
+    copy_from(s, 6, 0, 6, out);
+    copy_from(s, 0, 6, n - 6, out);
+    copy_from(s, n - 24, n - 6, n, out);
 }
 
 // Steps 1 to 4: S1 of x in out. p and q hold n - 12 numbers, r n - 24.

@@ -2,7 +2,6 @@
 -- Assumes nothing.
 use Prim.Native.Nat.{_+_, _*_, _-_, _≤_}
 use native.Mathlib.Omega.{arith}
-use borrow.Author.Needs.{needs}
 use Rattle.integers.specs.Words.{i-call, i-within, kept}
 use Rattle.filters.specs.Filter.{Table}
 use Rattle.filters.specs.Asks.{table, Dots}

@@ -4,12 +4,11 @@ use Prim.Native.Nat.{ℕ, _≤_, _-_, _+_, _*_}
 use mathlib.Core.Path.{_≡_, refl, subst, _∙_}
 use native.Mathlib.Nat.{add-mul}
 use native.Mathlib.Omega.{arith}
-use lib.ListN.{length}
 use lib.IntN.{pos}
 use borrow.Author.Needs.{needs}
 use Rattle.integers.specs.Filling.{Filled, filled-none, filled-on}
 use Rattle.filters.specs.Filter.{Table, valueAt}
-use Rattle.filters.specs.Asks.{table, Serves}
+use Rattle.filters.specs.Asks.{table}
 use Rattle.filters.proofs.fill_rows.Statement.{statement}
 use Rattle.filters.proofs.fill_rows.Tie as tie
 

@@ -1,6 +1,6 @@
 -- `filters::two_by_twelve` meets its contract: entry k below the counter is the value at place k + 6, and the sum is that of the last of them.
 -- Assumes nothing.
-use Prim.Native.Nat.{ℕ, _≤_, _<_, _-_, _+_, _*_}
+use Prim.Native.Nat.{ℕ, _≤_, _<_, _-_, _+_}
 use mathlib.Core.Path.{_≡_, refl, ap, subst⁻¹, _∙_}
 use native.Mathlib.Omega.{arith}
 use lib.Dec.{leb→le}

@@ -1,63 +1,45 @@
--- `pass::less_level` meets its contract: each entry below t is the difference there.
+-- `pass::less_level` meets its contract: its three stretches are filled in turn.
 -- Assumes nothing.
-use Prim.Native.Nat.{_≤_, _-_}
-use mathlib.Core.Path.{_≡_, _∙_}
-use native.Mathlib.Omega.{arith}
-use lib.ListN.{length}
-use lib.IntN.{pos, _-ℤ_}
-use Rattle.integers.specs.Lists.{_‼_}
-use Rattle.integers.specs.Words.{kept}
-use Rattle.pass.specs.Places.{nearest}
-use Rattle.pass.proofs.Places.{less-level-is}
-use Rattle.integers.specs.Filling.{Filled, filled-none, filled-more, filled-tab}
+use mathlib.Core.Path.{_∙_}
+use Rattle.pass.proofs.Places.{first-levels, own-levels, last-levels, level-filled}
+use borrow.Author.Needs.{needs}
 use Rattle.pass.proofs.less_level.Statement.{statement}
 use Rattle.pass.proofs.less_level.Tie as tie
 
-abbrev Inv-loop : tie.InvT-loop
-Inv-loop r m out₀ t₀ t-end out t = (t ≤ t-end) × (t-end ≡ length r) × Filled (pos 0) (λ k. (r ‼ k) -ℤ (m ‼ nearest (length r) k)) 0 t out₀ out
+less-from-requires : tie.Need-less-from-requires
+less-from-requires c κs = let s = c .before in (s .pre .0, first-levels (s .args .r .now) (s .args .m .now) (s .pre .0 .long) (s .pre .0 .fewer), s .pre .1)
 
-abbrev μ-loop : tie.MeasureT-loop
-μ-loop r m out₀ t₀ t-end out t = t-end - t
+sub-less-from : tie.Need-sub-less-from
+sub-less-from c = search needs
 
-loop-holds : tie.Need-loop-holds Inv-loop μ-loop
-loop-holds c = (omega arith, omega arith, filled-none)
+less-from-requires-2 : tie.Need-less-from-requires-2
+less-from-requires-2 c κs = let a = c .before .before in let s = a .before .before in (s .pre .0, own-levels (s .args .r .now) (s .args .m .now) (s .pre .0 .long) (s .pre .0 .fewer), a .less-from .ensures .long ∙ s .pre .1)
 
-less-level-at-requires : tie.Need-less-level-at-requires Inv-loop μ-loop
-less-level-at-requires c κs = (c .before .before .pre .0, omega arith)
+sub-less-from-2 : tie.Need-sub-less-from-2
+sub-less-from-2 c = search needs
 
-mul-t8 : tie.Need-mul-t8 Inv-loop μ-loop
-mul-t8 c = omega arith
+sub-less-from-3 : tie.Need-sub-less-from-3
+sub-less-from-3 c = search needs
 
-slice-set-from-out : tie.Need-slice-set-from-out Inv-loop μ-loop
-slice-set-from-out c = omega arith
+less-from-requires-3 : tie.Need-less-from-requires-3
+less-from-requires-3 c κs = let b = c .before .before in let a = b .before .before .before in let s = a .before .before in (s .pre .0, last-levels (s .args .r .now) (s .args .m .now) (s .pre .0 .long) (s .pre .0 .fewer), b .less-from2 .ensures .long ∙ a .less-from .ensures .long ∙ s .pre .1)
 
-add-t : tie.Need-add-t Inv-loop μ-loop
-add-t c = omega arith
+same-length : tie.Need-same-length
+same-length c = search needs
 
-loop-less : tie.Need-loop-less Inv-loop μ-loop
-loop-less c = omega arith
-
-loop-again : tie.Need-loop-again Inv-loop μ-loop
-loop-again c = let l = c .before .before in (omega arith, l .loop .inv .1, filled-more (l .loop .inv .2) (omega arith) (omega arith) (kept (c .less-level-at .ok) (c .less-level-at .ensures)))
-
-same-length : tie.Need-same-length Inv-loop μ-loop
-same-length c = c .before .loop .inv .2 .long
-
-returns : tie.Need-returns Inv-loop μ-loop
-returns c = let l = c .before in filled-tab (l .loop .inv .2) (omega arith) (l .before .pre .1) ∙ less-level-is (l .before .args .r .now) (l .before .args .m .now)
+returns : tie.Need-returns
+returns c = let d = c .before in let b = d .before .before .before in let a = b .before .before .before in let s = a .before .before in
+    level-filled (s .args .r .now) (s .args .m .now) (s .pre .0 .long) (s .pre .0 .fewer) (s .pre .1) (a .less-from .ensures) (b .less-from2 .ensures) (d .less-from3 .ensures)
 
 pub less-level-spec : {M : Type 1} → statement M
 less-level-spec =
     tie.close
     (tie.spec
-    Inv-loop
-    μ-loop
-    loop-holds
-    less-level-at-requires
-    mul-t8
-    slice-set-from-out
-    add-t
-    loop-less
-    loop-again
+    less-from-requires
+    sub-less-from
+    less-from-requires-2
+    sub-less-from-2
+    sub-less-from-3
+    less-from-requires-3
     same-length
     returns)
