@@ -10,9 +10,8 @@ use borrow.Author.Tests.{ne-eqb}
 use Rattle.integers.specs.Sizes.{by-abs}
 use Rattle.integers.specs.Lists.{_‼_, AllWithin}
 use Rattle.integers.specs.Filling.{Filled, filled-on, length-tab, tab-within}
-use Rattle.refusals.specs.Limits.{mostMonths}
 use Rattle.extremes.specs.Years.{yearOf, years, yearStart, months, groupAround, centre, group}
-use Rattle.extremes.specs.Spreads.{sizeOf, sizesOf, squares, spread, keep, remaining, secondSpread, spreadOf}
+use Rattle.extremes.specs.Spreads.{sizeOf, sizesOf, spread, keep, remaining, secondSpread, spreadOf}
 use Rattle.extremes.specs.Weighing.{weightBy, weightAt, emptiedBelow, emptied, answerBy}
 use Rattle.extremes.specs.Contracts.{largestIrregular, largestSize, Calendar, sizesIn, servedFrom, Sizes, Range}
 use Rattle.extremes.specs.declared.Spread.the-variants.{Of}
@@ -20,7 +19,7 @@ use Rattle.extremes.specs.declared.Weighed.the-variants.{Weights}
 use Rattle.extremes.proofs.ListLaws.{AllBelow, map-tab, sizes-back}
 use Rattle.extremes.proofs.Bounds.{size-most}
 use Rattle.extremes.proofs.Calendar.{centre-inside, centre-own, group-range, served-order, served-by}
-use Rattle.extremes.proofs.Keeping.{months-below, length-months, sums-small, spread-most, kept-most, some-remain, spread-is}
+use Rattle.extremes.proofs.Keeping.{months-below, length-months, spread-most, kept-most, some-remain, spread-is}
 use Rattle.extremes.proofs.Running.{held-whole}
 
 -- ---- the sizes that a slice holds
@@ -31,12 +30,6 @@ length-sizes work = length-map work natAbs
 pub sizes-below : {work : List ℤ} → AllWithin largestSize work → AllBelow largestSize (sizesIn work)
 unfolding sizesIn
 sizes-below {work} h = record { at = λ t. omega (arith, List·getD-map natAbs work t (pos 0), h .at t) }
-
-pub range-sums : (limit : ℕ) {lo hi : ℕ} {work : List ℤ} → Range lo hi work
-    → let g = keep limit (months lo hi (sizesIn work)) in (squares g ≤ mostMonths * (largestSize * largestSize)) × (length g ≤ mostMonths)
-range-sums limit {lo} {hi} {work} p =
-    let l = length-months (sizesIn work) lo hi (omega (arith, length-sizes work)) in
-    sums-small limit (months lo hi (sizesIn work)) (months-below lo hi (sizes-below (p .sizes .small))) (omega arith)
 
 -- what a slice holds that was filled with the sizes of an irregular
 pub length-sizesOf : (x : List ℤ) → length (sizesOf x) ≡ length x

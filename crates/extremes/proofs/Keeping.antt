@@ -13,10 +13,9 @@ use lib.Seq.{slice-cons, slice-empty, length-slice}
 use borrow.Author.Tests.{ltb-true, lt-ltb, le-ltb, eq-eqb, ne-eqb}
 use Rattle.integers.specs.Root.{root}
 use Rattle.integers.specs.RootLaws.{root-is}
-use Rattle.refusals.specs.Limits.{mostMonths}
 use Rattle.extremes.specs.Years.{months}
 use Rattle.extremes.specs.Spreads.{squares, spread, keep, remaining, spreadOf}
-use Rattle.extremes.specs.Contracts.{largestSize}
+use Rattle.extremes.specs.Contracts.{dropped, NextAbove}
 use Rattle.extremes.specs.declared.Spread.{Spread}
 use Rattle.extremes.specs.declared.Spread.the-variants.{Of, Nothing}
 use Rattle.extremes.proofs.ListLaws.{AllBelow, below-tail, below-cons, below-slice}
@@ -40,24 +39,6 @@ unfolding months
 months-below lo hi h = below-slice lo hi h
 
 -- ---- what stays under a limit
-keep-in : (limit a : ℕ) (g : List ℕ) → 2 * a ≤ limit → keep limit (a ∷ g) ≡ a ∷ keep limit g
-unfolding keep
-keep-in limit a g h = rw (le-ltb limit (2 * a) h)
-
-keep-out : (limit a : ℕ) (g : List ℕ) → limit < 2 * a → keep limit (a ∷ g) ≡ keep limit g
-unfolding keep
-keep-out limit a g h = rw (lt-ltb limit (2 * a) h)
-
--- fewer months, none larger
-keep-length : (limit : ℕ) (g : List ℕ) → length (keep limit g) ≤ length g
-unfolding keep
-keep-length limit [] = omega arith
-keep-length limit (a ∷ g) = go (ltb limit (2 * a)) (keep-length limit g)
-  where
-    go : (c : Bool) → length (keep limit g) ≤ length g → length (cond c (keep limit g) (a ∷ keep limit g)) ≤ suc (length g)
-    go true i = omega arith
-    go false i = omega arith
-
 keep-below : (limit b : ℕ) (g : List ℕ) → AllBelow b g → AllBelow b (keep limit g)
 unfolding keep
 keep-below limit b [] h = h
@@ -81,10 +62,6 @@ spread-most b g h = go (root-is (squares g / length g) .not-above) (decLe (sprea
     go l (yes m) = m
     go l (no m) = let k : b + 1 ≤ spread g = omega arith in absurd (omega (arith, l, mul-le-mul k k, div-le-of-le-mul (length g) (squares-most b g h)))
 
--- sums and counts that the code holds
-pub sums-small : (limit : ℕ) (g : List ℕ) → AllBelow largestSize g → length g ≤ mostMonths → (squares (keep limit g) ≤ mostMonths * (largestSize * largestSize)) × (length (keep limit g) ≤ mostMonths)
-sums-small limit g h k = omega (arith, keep-length limit g, squares-most largestSize (keep limit g) (keep-below limit largestSize g h))
-
 pub kept-most : (limit b : ℕ) (g : List ℕ) → AllBelow b g → spread (keep limit g) ≤ b
 kept-most limit b g h = spread-most b (keep limit g) (keep-below limit b g h)
 
@@ -106,33 +83,72 @@ some-remain g l h =
     let q : (spread g + 1) * (spread g + 1) ≤ squares g / length g = le-div-iff-mul-le l .1 (omega (arith, all-above (spread g) g h)) in
     omega (arith, root-is (squares g / length g) .greatest (spread g + 1) q)
 
--- ---- the code's sum and count, with the months still to come
-pub record Summing (limit : ℕ) (g rest : List ℕ) (sum count : ℕ) : Type 0 where
-  pub total : sum + squares (keep limit rest) ≡ squares (keep limit g)
-  pub number : count + length (keep limit rest) ≡ length (keep limit g)
+-- ---- what dropping takes away
+-- what stays and what is dropped are the whole
+whole : (limit : ℕ) (g : List ℕ) → (squares (keep limit g) + squares (dropped limit g) ≡ squares g) × (length (keep limit g) + length (dropped limit g) ≡ length g)
+unfolding keep dropped squares
+whole limit [] = (refl, refl)
+whole limit (a ∷ g) = go (ltb limit (2 * a)) (whole limit g)
+  where
+    go : (c : Bool) → (squares (keep limit g) + squares (dropped limit g) ≡ squares g) × (length (keep limit g) + length (dropped limit g) ≡ length g)
+        → let k = cond c (keep limit g) (a ∷ keep limit g) in let d = cond c (a ∷ dropped limit g) (dropped limit g) in
+        (squares k + squares d ≡ a * a + squares g) × (length k + length d ≡ suc (length g))
+    go true i = omega arith
+    go false i = omega arith
 
-pub summing-as : {limit s n sum count : ℕ} {g rest : List ℕ} → Summing limit g rest s n → sum ≡ s → count ≡ n → Summing limit g rest sum count
-summing-as h d e = record { total = omega arith; number = omega arith }
-
--- one more month
-module _ (l : List ℕ) (t hi : ℕ) (below : t < hi) (inside : hi ≤ length l) {limit a sum count : ℕ} {g : List ℕ} (h : Summing limit g (months t hi l) sum count) (e : a ≡ getD l t 0) where
+-- the months from t on: month t stays, or is dropped
+module _ (l : List ℕ) (t hi : ℕ) (below : t < hi) (inside : hi ≤ length l) {a : ℕ} (e : a ≡ getD l t 0) where
   next : months t hi l ≡ a ∷ months (t + 1) hi l
   next = months-next l t hi below inside ∙ ap (λ (b : ℕ). b ∷ months (t + 1) hi l) (sym e)
 
-  pub month-in : 2 * a ≤ limit → Summing limit g (months (t + 1) hi l) (sum + a * a) (count + 1)
-  unfolding squares
-  month-in m = let k = ap (keep limit) next ∙ keep-in limit a (months (t + 1) hi l) m in
-      record { total = omega (arith, ap squares k, h .total); number = omega (arith, ap length k, h .number) }
+  pub month-stays : {limit : ℕ} → 2 * a ≤ limit → dropped limit (months t hi l) ≡ dropped limit (months (t + 1) hi l)
+  unfolding dropped
+  month-stays {limit} m = ap (dropped limit) next ∙ rw (le-ltb limit (2 * a) m)
 
-  pub month-out : limit < 2 * a → Summing limit g (months (t + 1) hi l) sum count
-  month-out m = let k = ap (keep limit) next ∙ keep-out limit a (months (t + 1) hi l) m in
-      record { total = omega (arith, ap squares k, h .total); number = omega (arith, ap length k, h .number) }
+  month-dropped : {limit : ℕ} → limit < 2 * a → dropped limit (months t hi l) ≡ a ∷ dropped limit (months (t + 1) hi l)
+  unfolding dropped
+  month-dropped {limit} m = ap (dropped limit) next ∙ rw (lt-ltb limit (2 * a) m)
 
-pub summing-done : (l : List ℕ) {limit t hi sum count : ℕ} {g : List ℕ} → t ≡ hi → Summing limit g (months t hi l) sum count → (sum ≡ squares (keep limit g)) × (count ≡ length (keep limit g))
-unfolding keep squares
-summing-done l {limit} {t} {hi} {sum} {count} {g} e h =
-    let k = ap (λ (u : ℕ). months u hi l) e ∙ months-none l hi in
-    (omega (arith, h .total, ap (λ (r : List ℕ). squares (keep limit r)) k), omega (arith, h .number, ap (λ (r : List ℕ). length (keep limit r)) k))
+-- the code's sum and count: those of what stays of g, with the months still to be dropped, of which t is the first
+pub record Dropping (limit hi : ℕ) (l g : List ℕ) (t sum count : ℕ) : Type 0 where
+  pub inside : t ≤ hi
+  pub above : t < hi → limit < 2 * getD l t 0
+  pub total : sum ≡ squares (keep limit g) + squares (dropped limit (months t hi l))
+  pub number : count ≡ length (keep limit g) + length (dropped limit (months t hi l))
+
+module _ (l : List ℕ) {limit hi : ℕ} (inside : hi ≤ length l) where
+  pub dropping-all : {lo r sum count : ℕ} → NextAbove limit lo hi l r → sum ≡ squares (months lo hi l) → count ≡ hi - lo → Dropping limit hi l (months lo hi l) r sum count
+  dropping-all {lo} h s n = let w = whole limit (months lo hi l) in record {
+    inside = h .inside;
+    above = h .above;
+    total = omega (arith, w .0, ap squares (h .none));
+    number = omega (arith, w .1, ap length (h .none), length-months l lo hi inside);
+  }
+
+  module _ {g : List ℕ} {t sum count : ℕ} (h : Dropping limit hi l g t sum count) where
+    -- one month fewer
+    module _ {a : ℕ} (below : t < hi) (e : a ≡ getD l t 0) where
+      pub one-dropped : (sum ≡ a * a + (squares (keep limit g) + squares (dropped limit (months (t + 1) hi l)))) × (count ≡ 1 + (length (keep limit g) + length (dropped limit (months (t + 1) hi l))))
+      unfolding squares
+      one-dropped =
+          let m : limit < 2 * a = omega (arith, h .above below) in
+          let k = month-dropped l t hi below inside e m in
+          (omega (arith, ap squares k, h .total), omega (arith, ap length k, h .number))
+
+      pub dropping-next : {r : ℕ} → NextAbove limit (t + 1) hi l r → Dropping limit hi l g r (sum - a * a) (count - 1)
+      dropping-next k = record {
+        inside = k .inside;
+        above = k .above;
+        total = omega (arith, one-dropped .0, ap squares (k .none));
+        number = omega (arith, one-dropped .1, ap length (k .none));
+      }
+
+    pub dropping-done : hi ≤ t → (sum ≡ squares (keep limit g)) × (count ≡ length (keep limit g))
+    unfolding dropped squares
+    dropping-done m =
+        let e : t ≡ hi = omega (arith, h .inside) in
+        let k = ap (λ (u : ℕ). dropped limit (months u hi l)) e ∙ ap (dropped limit) (months-none l hi) in
+        (omega (arith, h .total, ap squares k), omega (arith, h .number, ap length k))
 
 -- ---- the answer by a sum and a count
 pub spread-none : (g : List ℕ) → length g ≡ 0 → Nothing ≡ spreadOf g

@@ -75,8 +75,10 @@ module _ (l : List ℕ) where
       grow = omega (arith, sum-is lo (omega arith), sum-is hi k, squares-before lo hi (omega arith) k);
     }
 
-    pub first-is : {lo hi r : ℕ} → lo < hi → hi ≤ length l → r ≡ root ((sumBefore hi running - sumBefore lo running) / (hi - lo)) → r ≡ spread (months lo hi l)
-    unfolding spread
-    first-is {lo} {hi} h k f =
-        let p : sumBefore hi running - sumBefore lo running ≡ squares (months lo hi l) = omega (arith, sum-is lo (omega arith), sum-is hi k, squares-before lo hi (omega arith) k) in
-        f ∙ ap root (ap₂ _/_ p (sym (length-months l lo hi k)))
+    pub total-is : {lo hi r : ℕ} → lo < hi → hi ≤ length l → r ≡ sumBefore hi running - sumBefore lo running → r ≡ squares (months lo hi l)
+    total-is {lo} {hi} h k f = omega (arith, sum-is lo (omega arith), sum-is hi k, squares-before lo hi (omega arith) k)
+
+  -- the first spread by such a sum
+  pub first-is : (lo : ℕ) {hi r sum : ℕ} → hi ≤ length l → sum ≡ squares (months lo hi l) → r ≡ root (sum / (hi - lo)) → r ≡ spread (months lo hi l)
+  unfolding spread
+  first-is lo {hi} k p f = f ∙ ap root (ap₂ _/_ p (sym (length-months l lo hi k)))

@@ -1,8 +1,8 @@
 -- What the functions ask, and what `weights` promises.
-use Prim.Native.Nat.{ℕ, _+_, _≤_, _<_}
+use Prim.Native.Nat.{ℕ, _+_, _*_, _≤_, _<_}
 use mathlib.Core.Path.{_≡_}
 use mathlib.Core.Bool.{cond}
-use mathlib.Core.List.{List, _∷_, map}
+use mathlib.Core.List.{List, [], _∷_, map}
 use lib.Dec.{leb, ltb}
 use lib.ListN.{length, getD}
 use lib.IntN.{ℤ, pos, natAbs}
@@ -75,6 +75,18 @@ pub record SumsRange (lo hi : ℕ) (running : List ℤ) : Type 0 where
   pub inside : hi ≤ length running
   pub whole : Whole running
   pub grow : sumBefore lo running ≤ sumBefore hi running
+
+-- the months that dropping takes away
+unfoldable pub dropped : ℕ → List ℕ → List ℕ
+dropped limit [] = []
+dropped limit (a ∷ g) = cond (ltb limit (2 * a)) (a ∷ dropped limit g) (dropped limit g)
+
+-- of the months from t to below hi, r is the first to be dropped; hi where none is
+pub record NextAbove (limit t hi : ℕ) (sizes : List ℕ) (r : ℕ) : Type 0 where
+  pub order : t ≤ r
+  pub inside : r ≤ hi
+  pub none : dropped limit (months t hi sizes) ≡ dropped limit (months r hi sizes)
+  pub above : r < hi → limit < 2 * getD sizes r 0
 
 -- the first of n months that the group of year c serves, of the groups of years 2 to the last; n where c is past the last
 unfoldable pub servedFrom : ℕ → ℕ → ℕ → ℕ → ℕ

@@ -1,19 +1,18 @@
 // Spreads, weights and corrections: document 01, "Spread and weights". Sizes and spreads are in whole units.
 ghost use mathlib.Core.Path.{_≡_};
 ghost use mathlib.Core.List.{map};
-ghost use Prim.Native.Nat.{_+_, _-_, _/_, _≤_, _<_};
+ghost use Prim.Native.Nat.{_+_, _-_, _≤_, _<_};
 ghost use lib.ListN.{length, getD};
 ghost use lib.IntN.{pos};
 ghost use Rattle.integers.specs.Sizes.{_within_};
 ghost use Rattle.integers.specs.Lists.{AllWithin};
-ghost use Rattle.integers.specs.Root.{root};
 ghost use Rattle.integers.specs.Rounding.{nearest};
 ghost use Rattle.integers.specs.Filling.{Filled};
 ghost use Rattle.refusals.specs.Limits.{mostMonths, year, fullWeight};
 ghost use Rattle.extremes.specs.Years.{years, yearStart, months, group};
-ghost use Rattle.extremes.specs.Spreads.{sizeOf, sizesOf, keep, remaining, spreadOf};
+ghost use Rattle.extremes.specs.Spreads.{sizeOf, sizesOf, squares, keep, remaining, spreadOf};
 ghost use Rattle.extremes.specs.Weighing.{weight, weightBy, weightsBy, answerBy, correctionOf};
-ghost use Rattle.extremes.specs.Contracts.{largestIrregular, largestSize, Calendar, Weighable, Outcome, sizesIn, runningSquares, sumBefore, servedFrom, Whole, Sizes, Range, SumsRange};
+ghost use Rattle.extremes.specs.Contracts.{largestIrregular, largestSize, Calendar, Weighable, Outcome, sizesIn, runningSquares, sumBefore, servedFrom, Whole, Sizes, Range, SumsRange, NextAbove};
 
 // A spread, or nothing where there is no month to take it of.
 enum Spread {
@@ -62,12 +61,20 @@ fn served_from(start: usize, n: usize, last: usize, c: usize) -> usize
     year_start(start, n, c)
 }
 
+// n / d to the nearest whole number, a half up.
+fn nearest(n: u64, d: u64) -> u64
+    requires { ⌜ (0 < d) × (n ≤ largestIrregular) × (d ≤ largestSize) ⌝ }
+    ensures { λ r. ⌜ r ≡ nearest n d ⌝ }
+{
+    (2 * n + d) / (2 * d)
+}
+
 // The size of a month's irregular.
 fn size_of(irregular: i64) -> i64
     requires { ⌜ irregular within largestIrregular ⌝ }
     ensures { λ r. ⌜ r ≡ pos (sizeOf irregular) ⌝ }
 {
-    integers::size(integers::away_from_zero(irregular, refusals::UNIT)) as i64
+    nearest(integers::size(irregular), refusals::UNIT as u64) as i64
 }
 
 // The sizes of all months.
@@ -112,28 +119,42 @@ fn sum_before(sums: &[i64], t: usize) -> u64
     sums[t - 1] as u64
 }
 
-// The first spread of the months from lo to below hi, all of them, by two of the sums.
-fn first_spread(sums: &[i64], lo: usize, hi: usize) -> u64
+// The sum of the squares of the sizes from lo to below hi, by two of the sums.
+fn sum_of(sums: &[i64], lo: usize, hi: usize) -> u64
     requires { ⌜ SumsRange lo hi (now sums) ⌝ }
-    ensures { λ r. ⌜ r ≡ root ((sumBefore hi (now (sums .entry)) - sumBefore lo (now (sums .entry))) / (hi - lo)) ⌝ }
+    ensures { λ r. ⌜ r ≡ sumBefore hi (now (sums .entry)) - sumBefore lo (now (sums .entry)) ⌝ }
 {
-    let sum = sum_before(sums, hi) - sum_before(sums, lo);
-    integers::root(sum / ((hi - lo) as u64))
+    sum_before(sums, hi) - sum_before(sums, lo)
 }
 
-// The spread of the months from lo to below hi, but for those with twice their size above the limit.
-fn spread_of(sizes: &[i64], lo: usize, hi: usize, limit: u64) -> Spread
-    requires { ⌜ Range lo hi (now sizes) ⌝ }
+// The first month from t to below hi with twice its size above the limit, or hi where there is none.
+// Twice a size is above the limit where the size is above half of it.
+fn next_above(sizes: &[i64], t: usize, hi: usize, limit: u64) -> usize
+    requires { ⌜ Range t hi (now sizes) ⌝ }
+    ensures { λ r. ⌜ NextAbove limit t hi (sizesIn (now (sizes .entry))) r ⌝ }
+{
+    let half = limit / 2;
+    for k in t..hi {
+        if half < size_at(sizes, k) {
+            return k;
+        }
+    }
+    hi
+}
+
+// The spread of the months from lo to below hi, whose squares sum to the total, but for those with twice their size above the limit.
+fn spread_of(sizes: &[i64], lo: usize, hi: usize, total: u64, limit: u64) -> Spread
+    requires { ⌜ Range lo hi (now sizes) × (total ≡ squares (months lo hi (sizesIn (now sizes)))) ⌝ }
     ensures { λ r. ⌜ r ≡ spreadOf (keep limit (months lo hi (sizesIn (now (sizes .entry))))) ⌝ }
 {
-    let mut sum: u64 = 0;
-    let mut count: u64 = 0;
-    for t in lo..hi {
+    let mut sum = total;
+    let mut count = (hi - lo) as u64;
+    let mut t = next_above(sizes, lo, hi, limit);
+    while t < hi {
         let a = size_at(sizes, t);
-        if 2 * a <= limit {
-            sum += a * a;
-            count += 1;
-        }
+        sum -= a * a;
+        count -= 1;
+        t = next_above(sizes, t + 1, hi, limit);
     }
     if count == 0 {
         return Spread::Nothing;
@@ -149,15 +170,9 @@ fn group_spread(sizes: &[i64], sums: &[i64], start: usize, c: usize) -> Spread
     let n = sizes.len();
     let lo = year_start(start, n, c - 2);
     let hi = year_start(start, n, c + 3);
-    spread_of(sizes, lo, hi, 5 * first_spread(sums, lo, hi))
-}
-
-// n / d to the nearest whole number, a half up.
-fn nearest(n: u64, d: u64) -> u64
-    requires { ⌜ (0 < d) × (n ≤ largestIrregular) × (d ≤ largestSize) ⌝ }
-    ensures { λ r. ⌜ r ≡ nearest n d ⌝ }
-{
-    (2 * n + d) / (2 * d)
+    let total = sum_of(sums, lo, hi);
+    let first = integers::root(total / ((hi - lo) as u64));
+    spread_of(sizes, lo, hi, total, 5 * first)
 }
 
 // The weight of a month by the second spread of its group and its size.

@@ -1,14 +1,16 @@
 -- Laws of the two roundings: the distance is at most half, the size that of the fraction; and how the code works them.
-use mathlib.Core.Path.{_≡_, refl, ap, _∙_}
+use mathlib.Core.Path.{_≡_, refl, sym, ap, subst, _∙_}
+use mathlib.Core.Bool.{Bool, true, false, not, cond}
 use Prim.Native.Nat.{ℕ, suc, _+_, _*_, _/_, _<_, _≤_}
 use native.Mathlib.Nat.{div-add-mod, mod-lt, le-of-mul-le-mul-left}
 use native.Mathlib.Omega.{arith}
-use lib.Dec.{ltb→lt}
+use lib.Dec.{T, ltb→lt}
 use lib.IntN.{ℤ, pos, negsuc, negℤ, natAbs, _+ℤ_, _-ℤ_, _*ℤ_}
-use lib.Signed.{quotZ, _<ℤ_, _≤ℤ_}
+use lib.Signed.{quotZ, ltZ, _<ℤ_, _≤ℤ_, ltZ-yes, ltZ-no}
 use Rattle.integers.specs.Differences.{rep, ringℤ}
-use Rattle.integers.specs.Sizes.{_within_, by-abs, abs-⊖, abs-mul}
+use Rattle.integers.specs.Sizes.{_within_, by-abs, abs-⊖, abs-mul, w-lit, w+, w-, w*}
 use Rattle.integers.specs.Rounding.{nearest, awayFromZero, toGrain}
+use Rattle.integers.specs.Words.{farther}
 
 -- ---- the nearest whole number
 nearest-low : (n d : ℕ) → 2 * (d * nearest n d) ≤ 2 * n + d
@@ -70,3 +72,20 @@ unfolding awayFromZero nearest
 away-above (negsuc n) d h k = absurd (h .le)
 away-above (pos n) (negsuc m) h k = absurd (k .lt)
 away-above (pos n) (pos m) h k = refl
+
+-- the two cases in one
+pub farther-quot : (x d : ℤ) → pos 0 <ℤ d → quotZ (farther x d) (pos 2 *ℤ d) ≡ awayFromZero x (natAbs d)
+unfolding farther
+farther-quot x d k = go (ltZ x (pos 0)) refl
+  where
+    go : (b : Bool) → ltZ x (pos 0) ≡ b → quotZ (cond b (pos 2 *ℤ x -ℤ d) (pos 2 *ℤ x +ℤ d)) (pos 2 *ℤ d) ≡ awayFromZero x (natAbs d)
+    go true e = away-below x d (ltZ-yes (subst T (sym e) tt)) k
+    go false e = away-above x d (ltZ-no (subst (λ (b : Bool). T (not b)) (sym e) tt)) k
+
+pub farther-within : {x d : ℤ} {b : ℕ} → x within b → d within b → farther x d within (2 * b + b)
+unfolding farther
+farther-within {x} {d} {b} h k = go (ltZ x (pos 0))
+  where
+    go : (c : Bool) → cond c (pos 2 *ℤ x -ℤ d) (pos 2 *ℤ x +ℤ d) within (2 * b + b)
+    go true = w- (w* (w-lit 2) h) k
+    go false = w+ (w* (w-lit 2) h) k

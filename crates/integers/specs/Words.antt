@@ -1,7 +1,7 @@
 -- Values of an i64 computation. A signed local holds bits, so what a need shows of an intermediate result is `toZ w64 (ofZ w64 ..)`, nested.
 -- `Reads t z B`: the term t of the need is the number z, and z is within B. A proof puts these together as the code puts the operations together.
 use mathlib.Core.Path.{_≡_, refl, sym, ap₂, _∙_, subst}
-use mathlib.Core.Bool.{Bool, true, false, not}
+use mathlib.Core.Bool.{Bool, true, false, not, cond}
 use Prim.Native.Nat.{ℕ, suc, _+_, _*_, _-_, _/_, _^_, _<_, _≤_}
 use native.Mathlib.Nat.{lt-of-le-of-lt, le-trans, div-le-self}
 use native.Mathlib.Omega.{arith}
@@ -116,3 +116,7 @@ rounds h k a b p = record {
   divisor = i-within (i≤ k b);
   positive = subst (λ (z : ℤ). pos 0 <ℤ z) (sym (k .eq)) p;
 }
+
+-- what they put over twice the divisor: twice x and d more, away from zero
+unfoldable pub farther : ℤ → ℤ → ℤ
+farther x d = cond (ltZ x (pos 0)) (pos 2 *ℤ x -ℤ d) (pos 2 *ℤ x +ℤ d)

@@ -4,18 +4,22 @@ ghost use Prim.Native.Nat.{_*_, _≤_, _<_};
 ghost use lib.IntN.{natAbs};
 ghost use Rattle.integers.specs.Rounding.{awayFromZero, toGrain};
 ghost use Rattle.integers.specs.Root.{root};
-ghost use Rattle.integers.specs.Words.{Rounds};
+ghost use Rattle.integers.specs.Words.{Rounds, farther};
+
+// Twice x and d more, away from zero.
+fn farther(x: i64, d: i64) -> i64
+    requires { ⌜ Rounds x d ⌝ }
+    ensures { λ r. ⌜ r ≡ farther x d ⌝ }
+{
+    if x < 0 { 2 * x - d } else { 2 * x + d }
+}
 
 // x / d to the nearest whole number, a half away from zero: for millionths and whole units.
 pub fn away_from_zero(x: i64, d: i64) -> i64
     requires { ⌜ Rounds x d ⌝ }
     ensures { λ r. ⌜ r ≡ awayFromZero x (natAbs d) ⌝ }
 {
-    if x < 0 {
-        (2 * x - d) / (2 * d)
-    } else {
-        (2 * x + d) / (2 * d)
-    }
+    farther(x, d) / (2 * d)
 }
 
 // x / d to the nearest grain.

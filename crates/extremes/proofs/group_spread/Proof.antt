@@ -1,13 +1,13 @@
--- `extremes::group_spread` meets its contract: the range is the group's, and the first spread is that of all its months.
+-- `extremes::group_spread` meets its contract: the range is the group's, and the total and the first spread are those of all its months.
 -- Assumes nothing.
 use Prim.Native.Nat.{_≤_, _+_}
 use mathlib.Core.Path.{_≡_, _∙_}
 use native.Mathlib.Omega.{arith}
 use Rattle.extremes.specs.Years.{months}
-use Rattle.extremes.specs.Spreads.{spread}
+use Rattle.extremes.specs.Spreads.{squares, spread}
 use Rattle.extremes.specs.Contracts.{sizesIn}
 use Rattle.extremes.proofs.Calendar.{years-some}
-use Rattle.extremes.proofs.Running.{sums-range, first-is}
+use Rattle.extremes.proofs.Running.{sums-range, total-is, first-is}
 use Rattle.extremes.proofs.Groups.{Found, group-found}
 use Rattle.extremes.proofs.group_spread.Statement.{statement}
 use Rattle.extremes.proofs.group_spread.Tie as tie
@@ -30,21 +30,34 @@ add-year-start c = omega (arith, few (c .before))
 year-start-requires-2 : tie.Need-year-start-requires-2
 year-start-requires-2 c κs = (omega arith, omega arith, omega (arith, few (c .before)))
 
-first-spread-requires : tie.Need-first-spread-requires
-first-spread-requires c κs = sums-range (sizesIn (c .before .before .args .sizes .now)) (c .before .before .pre .2) (found c .order) (found c .inside)
+sum-of-requires : tie.Need-sum-of-requires
+sum-of-requires c κs = sums-range (sizesIn (c .before .before .args .sizes .now)) (c .before .before .pre .2) (found c .order) (found c .inside)
 
-first : (c : tie.After-first-spread) → let b = c .before in let s = b .before .before .args in
-    c .first-spread .result ≡ spread (months (b .before .year-start .result) (b .year-start2 .result) (sizesIn (s .sizes .now)))
-first c = let b = c .before in let s = b .before .before in first-is (sizesIn (s .args .sizes .now)) (s .pre .2) (found b .order) (found b .inside) (c .first-spread .ensures)
+total : (c : tie.After-sum-of) → let b = c .before in let s = b .before .before .args in
+    c .sum-of .result ≡ squares (months (b .before .year-start .result) (b .year-start2 .result) (sizesIn (s .sizes .now)))
+total c = let b = c .before in let s = b .before .before in total-is (sizesIn (s .args .sizes .now)) (s .pre .2) (found b .order) (found b .inside) (c .sum-of .ensures)
+
+sub-root : tie.Need-sub-root
+sub-root c = omega (arith, found (c .before) .order)
+
+div-root : tie.Need-div-root
+div-root c = omega (arith, found (c .before) .order)
+
+root-requires : tie.Need-root-requires
+root-requires c κs = tt
+
+first : (c : tie.After-root) → let b = c .before .before in let s = b .before .before .args in
+    c .root .result ≡ spread (months (b .before .year-start .result) (b .year-start2 .result) (sizesIn (s .sizes .now)))
+first c = let b = c .before .before in first-is (sizesIn (b .before .before .args .sizes .now)) (b .before .year-start .result) (found b .inside) (total (c .before)) (c .root .ensures)
 
 mul-spread-of : tie.Need-mul-spread-of
-mul-spread-of c = omega (arith, first c, found (c .before) .first-most)
+mul-spread-of c = omega (arith, first c, found (c .before .before) .first-most)
 
 spread-of-requires : tie.Need-spread-of-requires
-spread-of-requires c κs = found (c .before) .range
+spread-of-requires c κs = (found (c .before .before) .range, total (c .before))
 
 returns : tie.Need-returns
-returns c = let e = first (c .before) in rw e at (c .spread-of .ensures) ∙ found (c .before .before) .second
+returns c = let e = first (c .before) in rw e at (c .spread-of .ensures) ∙ found (c .before .before .before) .second
 
 pub group-spread-spec : {M : Type 1} → statement M
 group-spread-spec =
@@ -54,7 +67,10 @@ group-spread-spec =
     year-start-requires
     add-year-start
     year-start-requires-2
-    first-spread-requires
+    sum-of-requires
+    sub-root
+    div-root
+    root-requires
     mul-spread-of
     spread-of-requires
     returns)

@@ -1,78 +1,69 @@
--- `extremes::spread_of` meets its contract: what is summed and counted, with the months still to come, is the whole.
+-- `extremes::spread_of` meets its contract: what is left of the sum and the count is what stays, with the months still to be dropped.
 -- Assumes nothing.
-use Prim.Native.Nat.{_≤_, _<_, _*_, _-_, _+_}
+use Prim.Native.Nat.{_≤_, _*_, _-_}
 use mathlib.Core.Path.{_≡_}
-use mathlib.Core.Logic.{⊎-elim}
 use native.Mathlib.Nat.{mul-le-mul}
 use native.Mathlib.Omega.{arith}
 use lib.ListN.{length}
-use Rattle.refusals.specs.Limits.{mostMonths}
 use Rattle.extremes.specs.Years.{months}
 use Rattle.extremes.specs.Spreads.{keep, squares}
 use Rattle.extremes.specs.Contracts.{largestSize, sizesIn}
-use Rattle.extremes.proofs.Keeping.{Summing, summing-as, month-in, month-out, summing-done, spread-none, spread-some}
-use Rattle.extremes.proofs.Groups.{length-sizes, range-sums}
+use Rattle.extremes.proofs.Keeping.{Dropping, dropping-all, one-dropped, dropping-next, dropping-done, spread-none, spread-some}
+use Rattle.extremes.proofs.Groups.{length-sizes}
 use Rattle.extremes.proofs.spread_of.Statement.{statement}
 use Rattle.extremes.proofs.spread_of.Tie as tie
 
 abbrev Inv-loop : tie.InvT-loop
-Inv-loop sizes lo hi limit sum₀ count₀ t₀ sum count t = (lo ≤ t) × (t ≤ hi) × Summing limit (months lo hi (sizesIn sizes)) (months t hi (sizesIn sizes)) sum count
+Inv-loop sizes lo hi total limit sum₀ count₀ t₀ sum count t = Dropping limit hi (sizesIn sizes) (months lo hi (sizesIn sizes)) t sum count
 
 abbrev μ-loop : tie.MeasureT-loop
-μ-loop sizes lo hi limit sum₀ count₀ t₀ sum count t = hi - t
+μ-loop sizes lo hi total limit sum₀ count₀ t₀ sum count t = hi - t
+
+inside : (s : tie.Start Inv-loop μ-loop) → s .args .hi ≤ length (sizesIn (s .args .sizes .now))
+inside s = omega (arith, length-sizes (s .args .sizes .now))
+
+sub-count : tie.Need-sub-count Inv-loop μ-loop
+sub-count c = omega arith
+
+next-above-requires : tie.Need-next-above-requires Inv-loop μ-loop
+next-above-requires c κs = c .pre .0
 
 loop-holds : tie.Need-loop-holds Inv-loop μ-loop
-loop-holds c = (omega arith, omega arith, record { total = omega arith; number = omega arith })
+loop-holds c = dropping-all (sizesIn (c .before .args .sizes .now)) (inside (c .before)) (c .next-above .ensures) (omega arith) (omega arith)
 
 size-at-requires : tie.Need-size-at-requires Inv-loop μ-loop
-size-at-requires c κs = (omega arith, c .before .before .pre .sizes)
-
-mul-if1 : tie.Need-mul-if1 Inv-loop μ-loop
-mul-if1 c = omega (arith, c .size-at .ensures .1)
-
-in-step : (c : tie.After-size-at Inv-loop μ-loop) → 2 * c .size-at .result ≤ c .before .before .before .args .limit
-    → let s = c .before .before .before .args in let l = c .before .before .loop in
-    Summing (s .limit) (months (s .lo) (s .hi) (sizesIn (s .sizes .now))) (months (l .t + 1) (s .hi) (sizesIn (s .sizes .now))) (l .sum + c .size-at .result * c .size-at .result) (l .count + 1)
-in-step c k = let s = c .before .before .before in let l = c .before .before .loop in
-    month-in (sizesIn (s .args .sizes .now)) (l .t) (s .args .hi) (omega arith) (omega (arith, length-sizes (s .args .sizes .now))) (l .inv .2) (c .size-at .ensures .0) k
-
-out-step : (c : tie.After-size-at Inv-loop μ-loop) → c .before .before .before .args .limit < 2 * c .size-at .result
-    → let s = c .before .before .before .args in let l = c .before .before .loop in
-    Summing (s .limit) (months (s .lo) (s .hi) (sizesIn (s .sizes .now))) (months (l .t + 1) (s .hi) (sizesIn (s .sizes .now))) (l .sum) (l .count)
-out-step c k = let s = c .before .before .before in let l = c .before .before .loop in
-    month-out (sizesIn (s .args .sizes .now)) (l .t) (s .args .hi) (omega arith) (omega (arith, length-sizes (s .args .sizes .now))) (l .inv .2) (c .size-at .ensures .0) k
-
-bounds : (c : tie.Start Inv-loop μ-loop) → let g = keep (c .args .limit) (months (c .args .lo) (c .args .hi) (sizesIn (c .args .sizes .now))) in (squares g ≤ mostMonths * (largestSize * largestSize)) × (length g ≤ mostMonths)
-bounds c = range-sums (c .args .limit) (c .pre)
+size-at-requires c κs = (omega arith, c .before .before .before .pre .0 .sizes)
 
 mul-sum : tie.Need-mul-sum Inv-loop μ-loop
-mul-sum c = let l = c .before .size-at .ensures .1 in
-    let k : c .before .size-at .result * c .before .size-at .result ≤ largestSize * largestSize = mul-le-mul l l in omega arith
+mul-sum c = let l = c .size-at .ensures .1 in
+    let k : c .size-at .result * c .size-at .result ≤ largestSize * largestSize = mul-le-mul l l in omega arith
 
-add-sum : tie.Need-add-sum Inv-loop μ-loop
-add-sum c = omega (arith, in-step (c .before) (omega arith), bounds (c .before .before .before .before))
+one : (c : tie.After-size-at Inv-loop μ-loop) → let l = c .before .before .loop in let a = c .size-at .result in (a * a ≤ l .sum) × (1 ≤ l .count)
+one c = let s = c .before .before .before .before in let d = one-dropped (sizesIn (s .args .sizes .now)) (inside s) (c .before .before .loop .inv) (omega arith) (c .size-at .ensures .0) in
+    (omega (arith, d .0), omega (arith, d .1))
 
-add-count : tie.Need-add-count Inv-loop μ-loop
-add-count c = omega (arith, in-step (c .before) (omega arith), bounds (c .before .before .before .before))
+sub-sum : tie.Need-sub-sum Inv-loop μ-loop
+sub-sum c = one c .0
 
-add-t : tie.Need-add-t Inv-loop μ-loop
-add-t c = omega arith
+sub-count-2 : tie.Need-sub-count-2 Inv-loop μ-loop
+sub-count-2 c = one c .1
+
+add-next-above : tie.Need-add-next-above Inv-loop μ-loop
+add-next-above c = omega arith
+
+next-above-requires-2 : tie.Need-next-above-requires-2 Inv-loop μ-loop
+next-above-requires-2 c κs = let r = c .before .before .before .before .pre .0 in record { order = omega arith; inside = r .inside; most = r .most; sizes = r .sizes }
 
 loop-less : tie.Need-loop-less Inv-loop μ-loop
-loop-less c = omega arith
+loop-less c = omega (arith, c .next-above2 .ensures .order)
 
 loop-again : tie.Need-loop-again Inv-loop μ-loop
-loop-again c = (
-  omega arith,
-  omega arith,
-  ⊎-elim
-      (λ w. summing-as (in-step (c .before) (omega arith)) (w .1) (w .2))
-      (λ w. summing-as (out-step (c .before) (omega arith)) (w .1) (w .2)) (c .if1 .came),
-)
+loop-again c = let b = c .before in let s = b .before .before .before .before in
+    dropping-next (sizesIn (s .args .sizes .now)) (inside s) (b .before .before .loop .inv) (omega arith) (b .size-at .ensures .0) (c .next-above2 .ensures)
 
-done : (c : tie.After-loop Inv-loop μ-loop) → let s = c .before .before .args in let g = keep (s .limit) (months (s .lo) (s .hi) (sizesIn (s .sizes .now))) in
+done : (c : tie.After-loop Inv-loop μ-loop) → let s = c .before .before .before .args in let g = keep (s .limit) (months (s .lo) (s .hi) (sizesIn (s .sizes .now))) in
     (c .before .loop .sum ≡ squares g) × (c .before .loop .count ≡ length g)
-done c = summing-done (sizesIn (c .before .before .args .sizes .now)) (omega arith) (c .before .loop .inv .2)
+done c = let s = c .before .before .before in dropping-done (sizesIn (s .args .sizes .now)) (inside s) (c .before .loop .inv) (omega arith)
 
 returns : tie.Need-returns Inv-loop μ-loop
 returns c = spread-none _ (omega (arith, done (c .before)))
@@ -92,13 +83,15 @@ spread-of-spec =
     (tie.spec
     Inv-loop
     μ-loop
+    sub-count
+    next-above-requires
     loop-holds
     size-at-requires
-    mul-if1
     mul-sum
-    add-sum
-    add-count
-    add-t
+    sub-sum
+    sub-count-2
+    add-next-above
+    next-above-requires-2
     loop-less
     loop-again
     returns
