@@ -1,5 +1,6 @@
-/* Reads a desk file and prints its tables: t (the month, counted from 0), figure, D10, D11, D12, D13 in units, and the weights B17 and
-   C17. A refusal goes to standard error with its number and place, and its number is the exit status. In the repository's folder:
+/* Reads a desk file, examples/production.desk if none is named, and prints its tables: t (the month, counted from 0), figure, D10, D11, D12,
+   D13 in units, and the weights B17 and C17. The file's own weights are checked and not used. A refusal goes to standard error with its
+   number and place, and its number is the exit status; 100 if reading or printing fails. In the repository's folder:
 
        rt staticlib exports
        cc -std=c99 -Wall -Wextra -Wpedantic -Werror -O2 -I include -o target/decompose-c examples/decompose.c target/staticlib/libexports.a
@@ -10,7 +11,7 @@
 #include "vepsjalm.h"
 
 #define MONTHS VEPSJALM_MOST_MONTHS
-#define UNREAD 100 /* the exit status for a file that cannot be read: no refusal has this number */
+#define FAILED 100 /* the exit status where the system fails to read or print: no refusal has this number */
 
 static int32_t figures[MONTHS];
 static uint16_t weights[MONTHS], b17[MONTHS], c17[MONTHS];
@@ -26,9 +27,13 @@ static int load(const char *name, size_t *size)
     if (stream == NULL)
         return 0;
     *size = fread(file, 1, sizeof file, stream);
-    int good = !ferror(stream);
-    fclose(stream);
-    return good;
+    return !ferror(stream) && fclose(stream) == 0;
+}
+
+static int failed(const char *name)
+{
+    perror(name);
+    return FAILED;
 }
 
 static int refused(int number, uint64_t place)
@@ -54,10 +59,8 @@ int main(int arguments, char **words)
 {
     const char *name = arguments > 1 ? words[1] : "examples/production.desk";
     size_t size;
-    if (!load(name, &size)) {
-        perror(name);
-        return UNREAD;
-    }
+    if (!load(name, &size))
+        return failed(name);
     uint64_t count, place;
     uint8_t start;
     int number = vepsjalm_read(file, size, figures, MONTHS, weights, MONTHS, &count, &start, &place);
@@ -69,5 +72,5 @@ int main(int arguments, char **words)
     if (number != VEPSJALM_SUCCESS)
         return refused(number, place);
     print_tables(n);
-    return 0;
+    return fflush(stdout) != 0 || ferror(stdout) ? failed("standard output") : 0;
 }

@@ -1,10 +1,13 @@
-//! Reads a desk file and prints its tables: t (the month, counted from 0), figure, D10, D11, D12, D13 in units, and the weights B17 and
-//! C17. A refusal goes to standard error with its number and place, and its number is the exit status. In the repository's folder:
+//! Reads a desk file, examples/production.desk if none is named, and prints its tables: t (the month, counted from 0), figure, D10, D11, D12,
+//! D13 in units, and the weights B17 and C17. The file's own weights are checked and not used. A refusal goes to standard error with its
+//! number and place, and its number is the exit status; 100 if reading or printing fails. In the repository's folder:
 //!
 //!     rt staticlib exports
 //!     rustc --edition 2021 -O -D warnings -L target/staticlib -o target/decompose-rust examples/decompose.rs
 //!     target/decompose-rust examples/production.desk
 
+use std::fs::File;
+use std::io::{Read, Write};
 use std::process::ExitCode;
 
 // As in include/vepsjalm.h, which says what each asks and leaves. A slice is a pointer and its length.
@@ -24,7 +27,8 @@ extern "C" {
 }
 
 const MOST_MONTHS: usize = 600;
-const UNREAD: u8 = 100; // the exit status for a file that cannot be read: no refusal has this number
+const LONGEST_FILE: u64 = 3604;
+const FAILED: u8 = 100; // the exit status where the system fails to read or print: no refusal has this number
 
 /// The figures and the start month, or a refusal's number and place.
 fn read(file: &[u8]) -> Result<(Vec<i32>, u8), (u8, u64)> {
@@ -62,21 +66,21 @@ fn tables(figures: &[i32], start: u8) -> Result<String, (u8, u64)> {
     Ok(text)
 }
 
+/// The file, or its first bytes: one more than the longest desk file, so that a longer one is seen to be too long.
+fn load(name: &std::ffi::OsStr) -> std::io::Result<Vec<u8>> {
+    let mut file = Vec::new();
+    File::open(name)?.take(LONGEST_FILE + 1).read_to_end(&mut file)?;
+    Ok(file)
+}
+
 fn main() -> ExitCode {
-    let name = std::env::args().nth(1).unwrap_or("examples/production.desk".to_string());
-    let file = match std::fs::read(&name) {
-        Ok(file) => file,
-        Err(error) => {
-            eprintln!("{name}: {error}");
-            return ExitCode::from(UNREAD);
-        }
-    };
-    match read(&file).and_then(|(figures, start)| tables(&figures, start)) {
-        Ok(text) => print!("{text}"),
-        Err((number, place)) => {
-            eprintln!("refused {number} {place}");
-            return ExitCode::from(number);
-        }
-    }
-    ExitCode::SUCCESS
+    let name = std::env::args_os().nth(1).unwrap_or("examples/production.desk".into());
+    let printed = load(&name).and_then(|file| match read(&file).and_then(|(figures, start)| tables(&figures, start)) {
+        Ok(text) => std::io::stdout().write_all(text.as_bytes()).map(|()| 0),
+        Err((number, place)) => writeln!(std::io::stderr(), "refused {number} {place}").map(|()| number),
+    });
+    ExitCode::from(printed.unwrap_or_else(|error| {
+        eprintln!("{}: {error}", name.display());
+        FAILED
+    }))
 }

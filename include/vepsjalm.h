@@ -1,5 +1,9 @@
 /* Vepsjalm: seasonal adjustment of a monthly series by the additive X-11 method, and its desk file. For C99 or later, and for C++.
-   `rt staticlib exports` writes the library, target/staticlib/libexports.a; examples/decompose.c is a whole caller.
+   `rt staticlib exports` in the repository's folder writes the library, target/staticlib/libexports.a, for x86-64 Linux; beside it only the
+   C library is needed. examples/decompose.c is a whole caller of reading and decomposing.
+
+   The filters are fixed: 2x12, 3x3, 3x5 and 13-term Henderson with Musgrave's ends. No multiplicative working, calendar effects, forecasts
+   or choice of filter length.
 
    For all three functions:
 
@@ -7,9 +11,12 @@
      point to: the place, and before it in reading the count and start month, in writing the size.
    - A slice is a pointer and, straight after it, its length, counted in entries and not in bytes.
    - All memory is the caller's. Nothing is allocated and there is no global state: many threads may call side by side, each on
-     memory of its own. Figures, weights and files that are only read may be shared.
-   - The caller owes pointers that are aligned for their type, valid for their length, and never null, not even for length 0; and
-     that nothing a call writes to overlaps anything else that is lent to that call. */
+     memory of its own. Figures, weights and files that are only read may be shared. What a slice that is filled, or the scratch, holds
+     before the call does not matter.
+   - The caller owes pointers that are aligned for their type, valid for their length (a single one for one entry), and never null, not
+     even for length 0; that nothing a call writes to overlaps anything else that is lent to that call; and that nobody else changes lent
+     memory until the call returns.
+   - An int that is passed as start month is cut to 8 bits by C before the call sees it: look at wider values yourself. */
 #ifndef VEPSJALM_H
 #define VEPSJALM_H
 
@@ -21,7 +28,7 @@
 #define VEPSJALM_MOST_MONTHS 600
 #define VEPSJALM_YEAR 12               /* the last start month, the first being 1; and the period of a desk file */
 #define VEPSJALM_LARGEST_FIGURE 200000 /* a figure's size, in units: -200,000 to 200,000 */
-#define VEPSJALM_UNIT 1000             /* thousandths in a unit; the tables are in thousandths */
+#define VEPSJALM_UNIT 1000             /* thousandths (grains) in a unit; the tables are in thousandths */
 #define VEPSJALM_FULL_WEIGHT 1000      /* the weight of a month that counts in full; weights are 0 to 1,000 */
 
 /* Entries of scratch and bytes of a desk file for n months; bytes of the longest desk file, 3,604. */
@@ -53,14 +60,16 @@ extern "C" {
 
 /* Decomposing: a series into its tables.
 
-   figures     n of them, in units, oldest first
+   figures     n of them, in units, oldest first; n is figures_length
    start       calendar month of the first figure, 1 to 12
    d10 to d13  exactly n entries each; filled with final seasonal, adjusted figure, final trend-cycle and final irregular, in thousandths
-   b17, c17    exactly n entries each; filled with the weights of extreme months of the first and second pass, 0 to 1,000 (in full)
+   b17, c17    exactly n entries each; filled with the weight of each month's irregular in the first pass and in the second, in thousandths:
+               1,000 counts in full, 0 not at all, and what is below 1,000 was found extreme
    scratch     at least 8n entries; success leaves the first 8n zero, and the rest as it was
    place       set to the refusal's place; 0 after success
 
-   In every month d10 and d11 make the figure times 1,000, and so do d10, d12 and d13. */
+   After success, in every month, d10 + d11 and d10 + d12 + d13 are each the figure times 1,000; and beside the last pass worked in exact
+   fractions from the same corrected series d10 and d11 are within 10 thousandths, d12 within 14 and d13 within 24. */
 uint8_t vepsjalm_decompose(
     const int32_t *figures, size_t figures_length, uint8_t start,
     int64_t *d10, size_t d10_length, int64_t *d11, size_t d11_length,
@@ -69,7 +78,7 @@ uint8_t vepsjalm_decompose(
     int64_t *scratch, size_t scratch_length, uint64_t *place);
 
 /* Reading a desk file. It has the count n in 2 bytes, the start month in 1 and the period 12 in 1, then n figures of 4 bytes, signed, then
-   n weights of 2 bytes, all low byte first: 4+6n bytes.
+   n final weights of 2 bytes, all low byte first: 4+6n bytes.
 
    file        the bytes
    figures     at least n entries; success fills the first n, in units, and leaves the rest
@@ -83,11 +92,11 @@ uint8_t vepsjalm_read(
     const uint8_t *file, size_t file_length, int32_t *figures, size_t figures_length, uint16_t *weights, size_t weights_length,
     uint64_t *count, uint8_t *start, uint64_t *place);
 
-/* Writing a desk file. What is written is read again unchanged.
+/* Writing a desk file. After success the first *size bytes of out, read again with that length, give the same series and weights.
 
    figures     n of them, in units
    start       calendar month of the first figure, 1 to 12
-   weights     exactly n entries, 0 to 1,000
+   weights     exactly n entries, 0 to 1,000: the final weights, c17 where they come from decomposing
    out         at least 4+6n bytes; success fills the first 4+6n and leaves the rest
    size        set to 4+6n; 0 after a refusal
    place       set to the refusal's place; 0 after success */
