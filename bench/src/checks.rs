@@ -1,0 +1,32 @@
+//! Rows 1 to 5 of the refusal sheet, for the programs beside ours.
+
+use crate::Answer;
+
+const FIGURE_LIMIT: i32 = 200_000;
+
+/// The first of rows 1 to 5 that applies, (0, 0) if none does. `tables` are the lengths of the four tables and the two weights.
+pub fn check(figures: &[i32], start: u8, tables: [usize; 6], scratch: usize) -> Answer {
+    let n = figures.len();
+    if n < 72 {
+        return (1, 0);
+    }
+    if n > 600 {
+        return (2, 0);
+    }
+    if !(1..=12).contains(&start) {
+        return (3, 0);
+    }
+    if tables != [n; 6] || scratch < 8 * n {
+        return (4, 0);
+    }
+    // All figures are looked at together; the place is searched only if one is outside.
+    if figures.iter().fold(false, |any, &figure| any | outside(figure)) {
+        let place = figures.iter().position(|&figure| outside(figure)).unwrap_or(0);
+        return (5, place as u64);
+    }
+    (0, 0)
+}
+
+fn outside(figure: i32) -> bool {
+    !(-FIGURE_LIMIT..=FIGURE_LIMIT).contains(&figure)
+}

@@ -1,0 +1,26 @@
+//! The proved program, called through the C interface. A slice passes as pointer and length.
+
+use crate::{Answer, Lent};
+
+extern "C" {
+    fn vepsjalm_decompose(
+        figures: *const i32, n: usize, start: u8,
+        d10: *mut i64, n10: usize, d11: *mut i64, n11: usize, d12: *mut i64, n12: usize, d13: *mut i64, n13: usize,
+        b17: *mut u16, nb: usize, c17: *mut u16, nc: usize, scratch: *mut i64, ns: usize, place: *mut u64,
+    ) -> u8;
+}
+
+pub fn decompose(figures: &[i32], start: u8, lent: &mut Lent<i64, u16>) -> Answer {
+    let mut place = u64::MAX;
+    // Each pointer goes with the length of the vector that it comes from, and no two overlap.
+    let number = unsafe {
+        vepsjalm_decompose(
+            figures.as_ptr(), figures.len(), start,
+            lent.d10.as_mut_ptr(), lent.d10.len(), lent.d11.as_mut_ptr(), lent.d11.len(),
+            lent.d12.as_mut_ptr(), lent.d12.len(), lent.d13.as_mut_ptr(), lent.d13.len(),
+            lent.b17.as_mut_ptr(), lent.b17.len(), lent.c17.as_mut_ptr(), lent.c17.len(),
+            lent.scratch.as_mut_ptr(), lent.scratch.len(), &mut place,
+        )
+    };
+    (number, place)
+}

@@ -1,0 +1,215 @@
+//! A plain integer program for the rules, written for speed in the usual ways: constant divisors and constant rows, a sliding sum for 2×12,
+//! no test of the row inside a filter, sums of squares once for a year, each group once. Tables are in grains. It works in the tables that
+//! the caller lends and the front of the scratch; of its own it has the sizes of the months and the sums of the years.
+
+use crate::checks::check;
+use crate::{Answer, Lent};
+
+const UNIT: i64 = 1000;
+const FULL_WEIGHT: u16 = 1000;
+
+/// s / D to the nearest whole number, a half away from zero.
+fn nearest<const D: i64>(s: i64) -> i64 {
+    (2 * s + if s < 0 { -D } else { D }) / (2 * D)
+}
+
+/// The sum of w[k] x[k * step].
+fn dot<const N: usize>(w: &[i64; N], x: &[i64], step: usize) -> i64 {
+    let mut sum = 0;
+    for k in 0..N {
+        sum += w[k] * x[k * step];
+    }
+    sum
+}
+
+/// A row over D for as many places as out has, the first window being the first of x.
+fn filter<const N: usize, const D: i64>(row: &[i64; N], x: &[i64], step: usize, out: &mut [i64]) {
+    for (w, out) in x.windows((N - 1) * step + 1).zip(out) {
+        *out = nearest::<D>(dot(row, w, step));
+    }
+}
+
+/// 2×12 of the places with six on each side.
+fn two_by_twelve(x: &[i64], out: &mut [i64]) {
+    let mut year: i64 = x[..12].iter().sum();
+    for (i, out) in out.iter_mut().enumerate() {
+        let next = year - x[i] + x[i + 12];
+        *out = nearest::<24>(year + next);
+        year = next;
+    }
+}
+
+/// 3×3 of each month's run.
+fn three_by_three(x: &[i64], out: &mut [i64]) {
+    let n = x.len();
+    filter::<3, 27>(&[11, 11, 5], x, 12, &mut out[..12]);
+    filter::<4, 27>(&[7, 10, 7, 3], x, 12, &mut out[12..24]);
+    filter::<5, 27>(&[3, 6, 9, 6, 3], x, 12, &mut out[24..n - 24]);
+    filter::<4, 27>(&[3, 7, 10, 7], &x[n - 48..], 12, &mut out[n - 24..n - 12]);
+    filter::<3, 27>(&[5, 11, 11], &x[n - 36..], 12, &mut out[n - 12..]);
+}
+
+/// 3×5 of each month's run.
+fn three_by_five(x: &[i64], out: &mut [i64]) {
+    let n = x.len();
+    filter::<4, 60>(&[17, 17, 17, 9], x, 12, &mut out[..12]);
+    filter::<5, 60>(&[15, 15, 15, 11, 4], x, 12, &mut out[12..24]);
+    filter::<6, 60>(&[9, 13, 13, 13, 8, 4], x, 12, &mut out[24..36]);
+    filter::<7, 60>(&[4, 8, 12, 12, 12, 8, 4], x, 12, &mut out[36..n - 36]);
+    filter::<6, 60>(&[4, 8, 13, 13, 13, 9], &x[n - 72..], 12, &mut out[n - 36..n - 24]);
+    filter::<5, 60>(&[4, 11, 15, 15, 15], &x[n - 60..], 12, &mut out[n - 24..n - 12]);
+    filter::<4, 60>(&[9, 17, 17, 17], &x[n - 48..], 12, &mut out[n - 12..]);
+}
+
+const HENDERSON: [i64; 13] = [-325, -468, 0, 1100, 2475, 3600, 4032, 3600, 2475, 1100, 0, -468, -325];
+
+/// Musgrave's rows in millionths, where 0 to 5 values follow; zeros stand before the shorter ones.
+const MUSGRAVE: [[i64; 12]; 6] = [
+    [0, 0, 0, 0, 0, -91849, -58102, 12022, 119773, 243898, 353139, 421119],
+    [0, 0, 0, 0, -42704, -38630, 1822, 79902, 174355, 253923, 292233, 279099],
+    [0, 0, 0, -16033, -24868, 2674, 67844, 149387, 216046, 241446, 215403, 148101],
+    [0, 0, -8135, -20191, 4132, 66082, 144406, 207845, 230023, 200762, 130241, 44835],
+    [0, -10993, -22037, 3297, 66259, 145594, 210045, 233236, 204985, 135475, 51080, -16941],
+    [-16430, -25768, 1272, 65939, 146980, 213136, 238034, 211488, 143684, 60995, -5321, -34009],
+];
+
+/// Henderson's 13 terms, with Musgrave's ends.
+fn henderson(x: &[i64], out: &mut [i64]) {
+    let n = x.len();
+    filter::<13, 16796>(&HENDERSON, x, 1, &mut out[6..n - 6]);
+    for (k, row) in MUSGRAVE.iter().enumerate() {
+        let (first, last) = (&x[..12], &x[n - 12..]);
+        out[k] = nearest::<1_000_000>((0..12).map(|i| row[i] * first[11 - i]).sum());
+        out[n - 1 - k] = nearest::<1_000_000>((0..12).map(|i| row[i] * last[i]).sum());
+    }
+}
+
+fn minus(x: &[i64], y: &[i64], out: &mut [i64]) {
+    for ((out, x), y) in out.iter_mut().zip(x).zip(y) {
+        *out = x - y;
+    }
+}
+
+/// r less its 2×12 values m, the nearest of them repeated at both ends.
+fn less_level(r: &[i64], m: &[i64], out: &mut [i64]) {
+    let n = r.len();
+    for t in 0..6 {
+        out[t] = r[t] - m[0];
+        out[n - 6 + t] = r[n - 6 + t] - m[n - 13];
+    }
+    minus(&r[6..n - 6], m, &mut out[6..n - 6]);
+}
+
+/// Steps 1 to 7: T2 in t and S2 in s; a and b are work space.
+fn pass(x: &[i64], a: &mut [i64], b: &mut [i64], t: &mut [i64], s: &mut [i64]) {
+    let n = x.len();
+    let e = n - 12;
+    two_by_twelve(x, &mut a[..e]);
+    minus(&x[6..n - 6], &a[..e], &mut b[..e]);
+    three_by_three(&b[..e], &mut a[..e]);
+    two_by_twelve(&a[..e], &mut b[..n - 24]);
+    less_level(&a[..e], &b[..n - 24], &mut s[6..n - 6]);
+    s.copy_within(12..18, 0);
+    s.copy_within(n - 18..n - 12, n - 6);
+    minus(x, s, a);
+    henderson(a, t);
+    minus(x, t, a);
+    three_by_five(a, b);
+    two_by_twelve(b, &mut a[..e]);
+    less_level(b, &a[..e], s);
+}
+
+/// The spread of months of these sizes, but for those with twice their size above the limit.
+fn second_spread(sizes: &[u64], limit: u64) -> Option<u64> {
+    let (mut sum, mut count) = (0, 0);
+    for &a in sizes {
+        if 2 * a <= limit {
+            sum += a * a;
+            count += 1;
+        }
+    }
+    (count > 0).then(|| (sum / count).isqrt())
+}
+
+fn weight(spread: u64, a: u64) -> u16 {
+    if spread == 0 {
+        return if a == 0 { FULL_WEIGHT } else { 0 };
+    }
+    if 2 * a > 5 * spread {
+        return 0;
+    }
+    if 2 * a < 3 * spread {
+        return FULL_WEIGHT;
+    }
+    (2500 - (2000 * a + spread) / (2 * spread)) as u16
+}
+
+/// The weights of an irregular. False where dropping leaves a group empty.
+fn weigh(irregular: &[i64], start: u8, weights: &mut [u16]) -> bool {
+    let n = irregular.len();
+    let before = start as usize - 1;
+    let years = (before + n - 1) / 12 + 1;
+    let first = |year: usize| (12 * year).saturating_sub(before).min(n);
+    let (mut sizes, mut squares) = ([0; 600], [0; 51]);
+    for (size, &irregular) in sizes.iter_mut().zip(irregular) {
+        *size = (irregular.unsigned_abs() + 500) / 1000;
+    }
+    for (year, sum) in squares[..years].iter_mut().enumerate() {
+        *sum = sizes[first(year)..first(year + 1)].iter().map(|a| a * a).sum();
+    }
+    for centre in 2..years - 2 {
+        let group = &sizes[first(centre - 2)..first(centre + 3)];
+        let sum: u64 = squares[centre - 2..centre + 3].iter().sum();
+        let Some(spread) = second_spread(group, 5 * (sum / group.len() as u64).isqrt()) else {
+            return false;
+        };
+        let lo = if centre == 2 { 0 } else { first(centre) };
+        let hi = if centre == years - 3 { n } else { first(centre + 1) };
+        for (weight_of, &a) in weights[lo..hi].iter_mut().zip(&sizes[lo..hi]) {
+            *weight_of = weight(spread, a);
+        }
+    }
+    true
+}
+
+/// A pass on x and the weights of its irregular; x becomes B1 less the corrections.
+fn revise(figures: &[i32], start: u8, x: &mut [i64], [a, b, t, s]: [&mut [i64]; 4], weights: &mut [u16]) -> bool {
+    pass(x, a, b, t, s);
+    for (((b, &figure), t), s) in b.iter_mut().zip(figures).zip(&*t).zip(&*s) {
+        *b = UNIT * figure as i64 - s - t;
+    }
+    if !weigh(b, start, weights) {
+        return false;
+    }
+    for (((x, &figure), &irregular), &weight) in x.iter_mut().zip(figures).zip(&*b).zip(&*weights) {
+        *x = UNIT * figure as i64 - nearest::<1000>(irregular * (FULL_WEIGHT - weight) as i64);
+    }
+    true
+}
+
+/// The three passes.
+pub fn decompose(figures: &[i32], start: u8, lent: &mut Lent<i64, u16>) -> Answer {
+    let Lent { d10, d11, d12, d13, b17, c17, scratch } = lent;
+    let lengths = [d10.len(), d11.len(), d12.len(), d13.len(), b17.len(), c17.len()];
+    let answer = check(figures, start, lengths, scratch.len());
+    if answer.0 != 0 {
+        return answer;
+    }
+    let n = figures.len();
+    let x = &mut scratch[..n];
+    for (x, &figure) in x.iter_mut().zip(figures) {
+        *x = UNIT * figure as i64;
+    }
+    let done = revise(figures, start, x, [d11, d13, d12, d10], b17) && revise(figures, start, x, [d11, d13, d12, d10], c17);
+    if done {
+        pass(x, d11, d13, d12, d10);
+        minus(x, d10, d11);
+        henderson(d11, d12);
+        for (((d11, d13), &figure), (d10, d12)) in d11.iter_mut().zip(d13).zip(figures).zip(d10.iter().zip(&*d12)) {
+            *d11 = UNIT * figure as i64 - d10;
+            *d13 = *d11 - d12;
+        }
+    }
+    scratch[..8 * n].fill(0);
+    if done { (0, 0) } else { (6, 0) }
+}

@@ -1,0 +1,86 @@
+//! Made-up series, the same at every run.
+
+/// A small generator of numbers with a fixed seed.
+pub struct Dice {
+    state: u64,
+}
+
+impl Dice {
+    pub fn new(seed: u64) -> Dice {
+        let mut dice = Dice { state: (seed.wrapping_mul(0x9e37_79b9_7f4a_7c15) ^ 0x2545_f491_4f6c_dd1d) | 1 };
+        for _ in 0..8 {
+            dice.roll();
+        }
+        dice
+    }
+
+    pub fn roll(&mut self) -> u64 {
+        self.state ^= self.state >> 12;
+        self.state ^= self.state << 25;
+        self.state ^= self.state >> 27;
+        self.state.wrapping_mul(0x2545_f491_4f6c_dd1d) >> 11
+    }
+
+    /// A whole number from low to high, both included.
+    pub fn between(&mut self, low: i64, high: i64) -> i64 {
+        low + (self.roll() % (high - low + 1) as u64) as i64
+    }
+
+    /// A number around 0, near to normal, with the given spread: the sum of twelve even ones.
+    pub fn noise(&mut self, spread: i64) -> i64 {
+        let sum: i64 = (0..12).map(|_| self.between(-1000, 1000)).sum();
+        sum * spread / 2000
+    }
+}
+
+/// Figures with their start month.
+#[derive(Clone, Debug)]
+pub struct Series {
+    pub start: u8,
+    pub figures: Vec<i32>,
+}
+
+fn within_limits(figures: impl Iterator<Item = i64>) -> Vec<i32> {
+    figures.map(|figure| figure.clamp(-200_000, 200_000) as i32).collect()
+}
+
+/// A series as offices have them: a level with a changing slope, a seasonal that moves slowly, noise, and a few extremes.
+pub fn ordinary(seed: u64, n: usize, level: i64, spread: i64) -> Series {
+    let mut dice = Dice::new(seed);
+    let start = dice.between(1, 12) as u8;
+    let seasonal: Vec<i64> = (0..12).map(|_| dice.between(-level / 5, level / 5)).collect();
+    let moving: Vec<i64> = (0..12).map(|_| dice.between(-level / 500 - 1, level / 500 + 1)).collect();
+    let (mut trend, mut slope) = (level * 1000, 0);
+    let figures = (0..n).map(|t| {
+        slope = slope * 95 / 100 + dice.between(-level, level);
+        trend += slope;
+        let extreme = if dice.between(0, 39) == 0 { dice.between(3, 9) * spread * (dice.between(0, 1) * 2 - 1) } else { 0 };
+        trend / 1000 + seasonal[t % 12] + moving[t % 12] * t as i64 / 12 + dice.noise(spread) + extreme
+    });
+    Series { start, figures: within_limits(figures) }
+}
+
+/// Any figures up to a size.
+pub fn random(seed: u64, n: usize, size: i64) -> Series {
+    let mut dice = Dice::new(seed);
+    let start = dice.between(1, 12) as u8;
+    Series { start, figures: within_limits((0..n).map(|_| dice.between(-size, size))) }
+}
+
+/// Each figure at one of the limits, by the throw of a coin.
+pub fn at_the_limits(seed: u64, n: usize) -> Series {
+    let mut dice = Dice::new(seed);
+    let start = dice.between(1, 12) as u8;
+    Series { start, figures: within_limits((0..n).map(|_| (dice.between(0, 1) * 2 - 1) * 200_000)) }
+}
+
+/// The same figure throughout, but for so many spikes.
+pub fn flat(seed: u64, n: usize, figure: i32, spikes: usize) -> Series {
+    let mut dice = Dice::new(seed);
+    let start = dice.between(1, 12) as u8;
+    let mut figures = vec![figure; n];
+    for _ in 0..spikes {
+        figures[dice.between(0, n as i64 - 1) as usize] = dice.between(-200_000, 200_000) as i32;
+    }
+    Series { start, figures }
+}
