@@ -20,7 +20,7 @@ use Rattle.extremes.specs.Spreads.{sizesOf}
 use Rattle.extremes.specs.Weighing.{emptied}
 use Rattle.extremes.proofs.Laws.{never-emptied}
 use Rattle.decompose.specs.Tables.{B1, B13, C13, D1, D10, D11, D12, D13, B17, C17}
-use Rattle.decompose.specs.Promise.{Slices, scratchFor, lengthsOf, fitting, groupEmptied, answer, zeroed, after, Promise}
+use Rattle.decompose.specs.Promise.{Slices, scratchFor, lengthsOf, fitting, groupEmptied, answerFor, answer, zeroed, after, Promise}
 use Rattle.decompose.specs.Asks.{Workable, Finished, Passes, Stops}
 use Rattle.decompose.specs.declared.Lengths.{Lengths}
 use Rattle.decompose.specs.declared.Decomposed.the-variants.{Tables, Refused}
@@ -66,7 +66,7 @@ no-tables : {k p : ℕ} → _≡_ {A = Answer Unit} (refusal k p) (success tt) �
 no-tables e = let z : _≡_ {A = ℕ} 0 1 = cc in omega arith
 
 pub refused : {start : ℕ} {f : List ℤ} {lent : Slices} {q : Refusal} → Stops q start f (lengthsOf lent) → Promise start f lent (Refused q) lent
-unfolding answer after
+unfolding answer answerFor after
 refused {start} {f} {lent} {q} h = record { answered = sym (h .row-is _); slices = rw (h .row-is, h .not-six); near = λ e. absurd (no-tables e); pass-b = pass-near _; pass-c = pass-near _; pass-d = pass-near _ }
 
 -- ---- no group is emptied
@@ -95,7 +95,7 @@ same : (s t : Slices) → s .d10 ≡ t .d10 → s .d11 ≡ t .d11 → s .d12 ≡
 same s t a b c d e f g = sym (made-is s) ∙ rw (a, b, c, d, e, f, g) (made-is t)
 
 answer-is : {start : ℕ} {f : List ℤ} (lent : Slices) → Passes start f (lengthsOf lent) → answer start f lent ≡ success tt
-unfolding answer
+unfolding answer answerFor
 answer-is lent h = h .next-is _ ∙ rw (not-emptied (h .workable))
 
 module _ (start : ℕ) (f : List ℤ) where

@@ -73,9 +73,12 @@ checked start figures lent next =
     (refusedAt (firstOutside figures) (refusal 5)
     next))))
 
--- decomposing checks 1, 2, 3, 4, 5, 6; the first that applies is the answer
+-- decomposing checks 1, 2, 3, 4, 5, 6; the first that applies is the answer. Of the lent slices it looks at their lengths only
+unfoldable pub answerFor : ℕ → List ℤ → Lengths → Answer Unit
+answerFor start figures lengths = checked start figures lengths (cond (groupEmptied start figures) (refusal 6 0) (success tt))
+
 unfoldable pub answer : ℕ → List ℤ → Slices → Answer Unit
-answer start figures lent = checked start figures (lengthsOf lent) (cond (groupEmptied start figures) (refusal 6 0) (success tt))
+answer start figures lent = answerFor start figures (lengthsOf lent)
 
 -- the first 8 n entries zero, the rest untouched
 unfoldable pub zeroed : ℕ → List ℤ → List ℤ

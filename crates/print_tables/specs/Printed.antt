@@ -1,6 +1,5 @@
 -- Document 01, "The printing program": what is printed for a desk file, by what reading and decomposing answer.
 use Prim.Native.Nat.{ℕ}
-use mathlib.Core.Bool.{cond}
 use mathlib.Core.List.{List, []}
 use lib.IntN.{ℤ}
 use lib.ListN.{length}
@@ -10,7 +9,7 @@ use Rattle.desk_file.specs.File.{seriesIn}
 use Rattle.desk_file.specs.ReadFile.{Accepted, readAnswer}
 use Rattle.decompose.specs.declared.Lengths.{Lengths}
 use Rattle.decompose.specs.Tables.{C17, D10, D11, D12, D13}
-use Rattle.decompose.specs.Promise.{checked, groupEmptied, scratchFor}
+use Rattle.decompose.specs.Promise.{answerFor, scratchFor}
 use Rattle.print_tables.specs.Text.{refusedLine, tablesText}
 
 -- the slices lent for n months: each n long, the scratch long enough for the longest series
@@ -19,7 +18,7 @@ lentFor n = record { d10 = n; d11 = n; d12 = n; d13 = n; b17 = n; c17 = n; scrat
 
 -- what decomposing answers then
 unfoldable pub seriesAnswer : ℕ → List ℤ → Answer Unit
-seriesAnswer start figures = checked start figures (lentFor (length figures)) (cond (groupEmptied start figures) (refusal 6 0) (success tt))
+seriesAnswer start figures = answerFor start figures (lentFor (length figures))
 
 -- "a refusal, decomposing's too, prints `refused`, number and place on one line, and nothing else"
 unfoldable pub decomposedText : Answer Unit → ℕ → List ℤ → List ℕ
