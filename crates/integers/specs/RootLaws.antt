@@ -1,8 +1,8 @@
 -- The root is the greatest whole number whose square is not above its operand, and the only one.
-use Prim.Native.Nat.{ℕ, zero, suc, _+_, _*_, _/_, _≤_, _<_}
+use Prim.Native.Nat.{ℕ, zero, suc, _+_, _*_, _-_, _/_, _≤_, _<_}
 use mathlib.Core.Path.{_≡_, refl}
 use mathlib.Core.Bool.{Bool, true, false, cond}
-use native.Mathlib.Nat.{mul-le-mul, le-antisymm}
+use native.Mathlib.Nat.{mul-le-mul, le-antisymm, div-lt-iff-lt-mul, le-div-iff-mul-le}
 use native.Mathlib.Decide.{decLe}
 use native.Mathlib.Omega.{arith}
 use borrow.Author.Tests.{leb-true, leb-false, eqb-true, eqb-false}
@@ -44,3 +44,37 @@ root-is x = between-root (root-between x)
 -- what the code finds is the root
 pub root-unique : {x r : ℕ} → Between x r → r ≡ root x
 root-unique {x} {r} h = le-antisymm (root-is x .greatest r (h .low)) (between-root h .greatest (root x) (root-is x .not-above))
+
+-- ---- a candidate that is not below the root, and the mean of it and its quotient
+grows : (a d : ℕ) → 4 * (a * (a + d)) ≤ (a + (a + d)) * (a + (a + d))
+grows a d = omega arith
+
+four-products : (a b : ℕ) → 4 * (a * b) ≤ (a + b) * (a + b)
+four-products a b = go (decLe a b)
+  where
+    go : Dec (a ≤ b) → 4 * (a * b) ≤ (a + b) * (a + b)
+    go (yes l) = let e : b ≡ a + (b - a) = omega arith in rw e (grows a (b - a))
+    go (no l) = let e : a ≡ b + (a - b) = omega arith in rw e (omega (arith, grows b (a - b)))
+
+quotient-above : (x r : ℕ) → 0 < r → x < (x / r + 1) * r
+quotient-above x r l = div-lt-iff-lt-mul {k = r} l .0 (omega arith)
+
+mean-above : (x r q n : ℕ) → x < (q + 1) * r → q + 1 + r ≤ 2 * (n + 1) → x < (n + 1) * (n + 1)
+mean-above x r q n h k = omega (arith, four-products (q + 1) r, mul-le-mul k k)
+
+pub narrowed : (x r : ℕ) → 0 < r → x < ((r + x / r) / 2 + 1) * ((r + x / r) / 2 + 1)
+narrowed x r l = mean-above x r (x / r) ((r + x / r) / 2) (quotient-above x r l) (omega arith)
+
+pub mean-some : (x r : ℕ) → 0 < r → 0 < x → 1 ≤ (r + x / r) / 2
+mean-some x r l h = go (decLe 2 r)
+  where
+    go : Dec (2 ≤ r) → 1 ≤ (r + x / r) / 2
+    go (yes k) = omega arith
+    go (no k) = let q : 1 ≤ x / r = le-div-iff-mul-le {k = r} l .1 (omega arith) in omega arith
+
+-- the quotient is little larger than the candidate, and where the mean is no smaller, the candidate's square is not above
+pub quotient-most : (x r : ℕ) → 0 < r → x < (r + 1) * (r + 1) → x / r ≤ r + 2
+quotient-most x r l h = let q : x / r < r + 3 = div-lt-iff-lt-mul {k = r} l .1 (omega arith) in omega arith
+
+pub found-low : (x r : ℕ) → 0 < r → r ≤ (r + x / r) / 2 → r * r ≤ x
+found-low x r l h = let q : r ≤ x / r = omega arith in le-div-iff-mul-le {k = r} l .0 q

@@ -44,22 +44,20 @@ fn above(x: u64) -> u64
     1u64 << ((65 - u64::leading_zeros(x)) / 2)
 }
 
-// The greatest whole number whose square is not above x: lo is not too large, hi is.
+// The greatest whole number whose square is not above x. The candidate is never below it, and the mean of it and its quotient narrows it.
 pub fn root(x: u64) -> u64
     ensures { λ r. ⌜ r ≡ root x ⌝ }
 {
-    let mut lo: u64 = 0;
-    let mut hi = above(x);
+    if x == 0 {
+        return 0;
+    }
+    let mut r = above(x);
     let found = loop {
-        if hi - lo <= 1 {
-            break lo;
+        let next = (r + x / r) / 2;
+        if r <= next {
+            break r;
         }
-        let mid = (lo + hi) / 2;
-        if mid * mid <= x {
-            lo = mid;
-        } else {
-            hi = mid;
-        }
+        r = next;
     };
     found
 }

@@ -1,55 +1,43 @@
--- `integers::root` meets its contract: the square of lo is never above x, that of hi always is.
+-- `integers::root` meets its contract: the candidate is never below the root, and falls until its square is not above x.
 -- Assumes nothing.
-use Prim.Native.Nat.{ℕ, _≤_, _<_, _*_, _-_, _+_, _/_}
-use mathlib.Core.Path.{_≡_, subst}
-use native.Mathlib.Nat.{mul-le-mul}
+use Prim.Native.Nat.{_≤_, _<_, _*_, _+_}
 use native.Mathlib.Omega.{arith}
-use Rattle.integers.specs.RootLaws.{root-unique}
+use borrow.Author.Needs.{needs}
+use Rattle.integers.specs.RootLaws.{root-unique, narrowed, mean-some, quotient-most, found-low}
 use Rattle.integers.proofs.root.Statement.{statement}
 use Rattle.integers.proofs.root.Tie as tie
 
 abbrev Inv-loop : tie.InvT-loop
-Inv-loop x lo₀ hi₀ lo hi = (lo < hi) × (hi ≤ 4294967296) × (lo * lo ≤ x) × (x < hi * hi)
+Inv-loop x r₀ r = (1 ≤ r) × (r ≤ 4294967296) × (x < (r + 1) * (r + 1)) × (1 ≤ x)
 
 abbrev μ-loop : tie.MeasureT-loop
-μ-loop x lo₀ hi₀ lo hi = hi - lo
+μ-loop x r₀ r = r
+
+returns : tie.Need-returns Inv-loop μ-loop
+returns c = root-unique (record { low = omega arith; high = omega arith })
 
 above-requires : tie.Need-above-requires Inv-loop μ-loop
-above-requires c κs = tt
+above-requires c κs = search needs
 
 loop-holds : tie.Need-loop-holds Inv-loop μ-loop
-loop-holds c = omega arith
+loop-holds c = omega (arith, c .above .ensures)
 
-sub-if1 : tie.Need-sub-if1 Inv-loop μ-loop
-sub-if1 c = omega arith
+div-next : tie.Need-div-next Inv-loop μ-loop
+div-next c = c .loop .inv .0
 
-add-mid : tie.Need-add-mid Inv-loop μ-loop
-add-mid c = omega arith
-
--- the square of a candidate fits
-square-fits : (m : ℕ) → m ≤ 4294967295 → m * m ≤ 18446744065119617025
-square-fits m h = mul-le-mul h h
-
-mul-if2 : tie.Need-mul-if2 Inv-loop μ-loop
-mul-if2 c = omega (arith, square-fits ((c .before .loop .lo + c .before .loop .hi) / 2) (omega arith))
+add-next : tie.Need-add-next Inv-loop μ-loop
+add-next c = let i = c .loop .inv in omega (arith, i, quotient-most (c .before .before .before .args .x) (c .loop .r) (i .0) (i .2))
 
 loop-less : tie.Need-loop-less Inv-loop μ-loop
 loop-less c = omega arith
 
 loop-again : tie.Need-loop-again Inv-loop μ-loop
-loop-again c = omega arith
+loop-again c = let l = c .before in let x = l .before .before .before .args .x in let i = l .loop .inv in
+    (mean-some x (l .loop .r) (i .0) (i .3), omega (arith, i), narrowed x (l .loop .r) (i .0), i .3)
 
-loop-less-2 : tie.Need-loop-less-2 Inv-loop μ-loop
-loop-less-2 c = omega arith
-
-loop-again-2 : tie.Need-loop-again-2 Inv-loop μ-loop
-loop-again-2 c = omega arith
-
-returns : tie.Need-returns Inv-loop μ-loop
-returns c =
-    let at = c .before .loop in
-    let next : at .hi ≡ at .lo + 1 = omega arith in
-    root-unique (record { low = at .inv .2; high = subst (λ (h : ℕ). c .before .before .before .args .x < h * h) next (at .inv .3) })
+returns-2 : tie.Need-returns-2 Inv-loop μ-loop
+returns-2 c = let l = c .before in let i = l .loop .inv in
+    root-unique (record { low = found-low (l .before .before .before .args .x) (l .loop .r) (i .0) (c .if2 .taken); high = i .2 })
 
 pub root-spec : {M : Type 1} → statement M
 root-spec =
@@ -57,13 +45,11 @@ root-spec =
     (tie.spec
     Inv-loop
     μ-loop
+    returns
     above-requires
     loop-holds
-    sub-if1
-    add-mid
-    mul-if2
+    div-next
+    add-next
     loop-less
     loop-again
-    loop-less-2
-    loop-again-2
-    returns)
+    returns-2)
