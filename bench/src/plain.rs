@@ -32,8 +32,8 @@ fn filter<const N: usize, const D: i64>(row: &[i64; N], x: &[i64], step: usize, 
 /// 2×12 of the places with six on each side.
 fn two_by_twelve(x: &[i64], out: &mut [i64]) {
     let mut year: i64 = x[..12].iter().sum();
-    for (i, out) in out.iter_mut().enumerate() {
-        let next = year - x[i] + x[i + 12];
+    for ((out, leaving), entering) in out.iter_mut().zip(x).zip(&x[12..]) {
+        let next = year - leaving + entering;
         *out = nearest::<24>(year + next);
         year = next;
     }

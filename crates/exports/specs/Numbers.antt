@@ -27,7 +27,8 @@ abbrev pub valueOf : {A : Type 0} → (A → ℕ) → Answer A → ℕ
 valueOf f (success a) = f a
 valueOf f (refusal number place) = 0
 
--- decomposing: the number returned, the place left, and the slices
+-- decomposing: the number returned, the place left, and the slices, which settle all; `near` and the distances of each pass are carried along, as
+-- in the promise of decomposing, so that no caller has to derive them
 pub record DecomposeNumbers (start : ℕ) (figures : List ℤ) (lent : Slices) (number place : ℕ) (left : Slices) : Type 0 where
   pub number-is : number ≡ numberOf (answer start figures lent)
   pub place-is : place ≡ placeOf (answer start figures lent)
