@@ -30,8 +30,8 @@ module _ (b1 d1 : List ℤ) where
   unfoldable pub E13 : List ℤ
   E13 = minus E11 E12
 
--- demand 3 at month t, of the tables as the caller gets them: seasonal and adjusted figure within 10 thousandths of a unit, the trend within
--- 14, the irregular within 24, and the parts add up
+-- demand 3 (the third promise of README) at month t, of the tables as the caller gets them: seasonal and adjusted figure within 10 grains, the
+-- trend within 14, the irregular within 24, and the parts add up
 pub record NearAt (b1 d1 d10 d11 d12 d13 : List ℤ) (t : ℕ) : Type 0 where
   pub seasonal : Apart 10 overE (d10 ‼ t) (E10 b1 d1 ‼ t)
   pub adjusted : Apart 10 overE (d11 ‼ t) (E11 b1 d1 ‼ t)

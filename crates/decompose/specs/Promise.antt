@@ -64,12 +64,12 @@ says (Refused r) = refusalOf r
 
 -- checks 1, 2, 3, 4, 5 in this order; n is the number of figures. `next` is the answer where none applies
 unfoldable pub checked : ℕ → List ℤ → Lengths → Answer Unit → Answer Unit
-checked start figures lent next =
+checked start figures lengths next =
     let n = length figures in
     cond (ltb n leastMonths) (refusal 1 0)
     (cond (ltb mostMonths n) (refusal 2 0)
     (cond (not (startInside start)) (refusal 3 0)
-    (cond (not (fitting n lent)) (refusal 4 0)
+    (cond (not (fitting n lengths)) (refusal 4 0)
     (refusedAt (firstOutside figures) (refusal 5)
     next))))
 
@@ -109,7 +109,7 @@ pub record Promise (start : ℕ) (figures : List ℤ) (lent : Slices) (r : Decom
   -- demand 3: where the answer is tables, at each t from 0 to n - 1
   pub near : says r ≡ success tt → (t : ℕ) → t < length figures
       → NearAt (B1 start figures) (D1 start figures) (left .d10) (left .d11) (left .d12) (left .d13) t
-  -- and what is said of each pass: its X is B1, C1, D1
+  -- and what is said of each pass, on its X as it stands, B1, C1, D1: facts of the rules, which hold whatever the program leaves
   pub pass-b : PassNear (B1 start figures)
   pub pass-c : PassNear (C1 start figures)
   pub pass-d : PassNear (D1 start figures)

@@ -1,4 +1,4 @@
--- What the functions ask, and what `weights` promises.
+-- What the functions ask of their arguments, and what `weights` promises the crate above. Nothing here is promised to a caller of the desk.
 use Prim.Native.Nat.{ℕ, _+_, _*_, _≤_, _<_}
 use mathlib.Core.Path.{_≡_}
 use mathlib.Core.Bool.{cond}
@@ -39,7 +39,8 @@ pub record Weighable (start : ℕ) (x work running : List ℤ) (out : List ℕ) 
   pub sums : length running ≡ length x
   pub weights : length out ≡ length x
 
--- what it promises: of the answer r, the sizes, their running sums and the weights as they are left
+-- what it promises: of the answer r, the sizes, their running sums and the weights as they are left, whichever the answer (row 6 and what it
+-- leaves are the caller's: it never applies)
 pub record Outcome (start : ℕ) (x : List ℤ) (r : Weighed) (work running : List ℤ) (out : List ℕ) : Type 0 where
   pub answer : r ≡ answerOf start x
   pub sizes : work ≡ map pos (sizesOf x)
@@ -88,6 +89,7 @@ pub record NextAbove (limit t hi : ℕ) (sizes : List ℕ) (r : ℕ) : Type 0 wh
   pub none : dropped limit (months t hi sizes) ≡ dropped limit (months r hi sizes)
   pub above : r < hi → limit < 2 * getD sizes r 0
 
--- the first of n months that the group of year c serves, of the groups of years 2 to the last; n where c is past the last
+-- the first of n months that the group of year c serves; the groups are those of years 2 to `last`, the third year from the end. n where c is
+-- past that
 unfoldable pub servedFrom : ℕ → ℕ → ℕ → ℕ → ℕ
 servedFrom start n last c = cond (leb c 2) 0 (cond (ltb last c) n (yearStart start n c))

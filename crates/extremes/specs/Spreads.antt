@@ -12,7 +12,8 @@ use Rattle.refusals.specs.Limits.{unit}
 use Rattle.extremes.specs.declared.Spread.{Spread}
 use Rattle.extremes.specs.declared.Spread.the-variants.{Of, Nothing}
 
--- "The irregular is first rounded to whole units", a half away from zero as everywhere: the size of a month's irregular, and the sizes of all months
+-- "The irregular is first rounded to whole units": a half goes away from zero, as for grains (the paper does not say; DECISIONS 1). The size of a
+-- month's irregular, and the sizes of all months
 unfoldable pub sizeOf : ℤ → ℕ
 sizeOf z = natAbs (awayFromZero z unit)
 

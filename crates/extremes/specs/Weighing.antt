@@ -47,7 +47,7 @@ emptiedBelow (suc k) start sizes = cond (eqb (length (remaining (group start siz
 unfoldable pub emptied : ℕ → List ℕ → Bool
 emptied start sizes = emptiedBelow (years start (length sizes)) start sizes
 
--- the answer to an irregular
+-- the answer to an irregular, for the crate above: decomposing gives row 6 its number (decompose, Promise)
 unfoldable pub answerBy : ℕ → List ℕ → Weighed
 answerBy start sizes = cond (emptied start sizes) EmptyGroup Weights
 

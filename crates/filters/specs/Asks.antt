@@ -13,7 +13,7 @@ use Rattle.filters.specs.Tables.{row2x12}
 abbrev pub largest : ℕ
 largest = 1_700_000_000_000
 
--- no number that is taken from another is larger: Henderson makes the largest, 13/10 of `largest`, a little larger still
+-- no number that is taken from another is larger: Henderson makes the largest, at most 13/10 of `largest`, and this is a little more
 abbrev pub widest : ℕ
 widest = 2_300_000_000_000
 
@@ -21,7 +21,7 @@ widest = 2_300_000_000_000
 abbrev pub table : ℕ → ℕ → ℕ → List ℤ → ℕ → ℕ → Table
 table half step width rows middle ends = record { half = half; step = step; width = width; rows = rows; middle = middle; ends = ends }
 
--- m weights from `at` on, whose sizes sum to little, and the values that they meet
+-- m weights from `at` on, whose sizes sum to at most 1,300,000, and the values that they meet
 pub record Dots (w : List ℤ) (at m : ℕ) (x : List ℤ) (from step : ℕ) : Type 0 where
   pub room : at + m ≤ length w
   pub light : norm m (λ k. w ‼ (at + k)) ≤ 1_300_000

@@ -28,8 +28,9 @@ weightAt F r k = F .rows ‼ (r * F .width + k)
 unfoldable pub denominator : Table → ℕ → ℕ
 denominator F r = cond (eqb r (F .half)) (F .middle) (F .ends)
 
--- at place t of n: how many values precede and follow that a row can take, and the row for so many. A run of six values, which 72 months
--- give, has three on one side at least (five have two): no place is short on both sides
+-- at place t of n: how many values precede and follow that a row can take, and the row for so many. Each place of a run of six values, which
+-- 72 months give, has three on one side; SI1 has runs of five at least, whose places have two on one side, enough for 3×3: no place is short
+-- on both sides
 unfoldable pub before : Table → ℕ → ℕ
 before F t = min (t / F .step) (F .half)
 
@@ -53,8 +54,8 @@ weighed F x t =
 unfoldable pub valueAt : Table → List ℤ → ℕ → ℤ
 valueAt F x t = toGrain (weighed F x t) (denominator F (rowAt F (length x) t))
 
--- as a whole number over L times the denominator of the values, L being a multiple of the rows' denominators (of those used, proofs/Rows.antt): nothing
--- is rounded or cut
+-- as a whole number over L times the denominator of the values. L is a multiple of the denominators of the rows (24, 27, 60; 4,199,000,000 is
+-- 250,000 times 16,796 and 4,199 times 1,000,000), so that nothing is rounded or cut
 unfoldable pub exactAt : Table → ℕ → List ℤ → ℕ → ℤ
 exactAt F L x t = pos (L / denominator F (rowAt F (length x) t)) *ℤ weighed F x t
 

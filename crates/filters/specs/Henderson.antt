@@ -38,7 +38,7 @@ module _ (p W P R : ℕ) (w : List ℤ) (M : ℕ) where
   abbrev tilt : ℤ
   tilt = sumZ (2 * p + 1 - M) (λ i. offset (M + i) *ℤ (w ‼ (M + i)))
 
-  -- D / (1 + M (M - 1) (M + 1) / 12 D) is 12 P over this
+  -- D / (1 + (M (M - 1) (M + 1) / 12) D) is 12 P over this
   abbrev under : ℕ
   under = 12 * R + M * (M - 1) * (M + 1) * P
 

@@ -1,5 +1,5 @@
--- Document 01, "Filters": the stored rows, oldest value first. The rows for the ends are shorter, and are filled up with zeros that nothing reads.
--- The rows for the start of a series or a run come first: they are those for its end, mirrored (proofs/Rows.antt).
+-- Document 01, "Filters": the stored rows, oldest value first. The rows for the ends are shorter, and are filled up with zeros that no filter reads.
+-- The rows for the start of a series or a run come first: they are those for its end, mirrored (specs/RowRules.antt).
 use mathlib.Core.List.{List, [], _∷_}
 use lib.IntN.{ℤ, pos, negsuc}
 use Rattle.filters.specs.Filter.{Table}

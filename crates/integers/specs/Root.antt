@@ -8,10 +8,11 @@ pub record IsRoot (x r : ℕ) : Type 0 where
   pub not-above : r * r ≤ x
   pub greatest : (s : ℕ) → s * s ≤ x → s ≤ r
 
--- the root as a number that can be worked: twice the root of a quarter, or one more. k is at least the number of quarterings
+-- the root as a number that can be worked: one more, where its square is not above
 unfoldable pub oneMore : ℕ → ℕ → ℕ
 oneMore x r = cond (leb ((r + 1) * (r + 1)) x) (r + 1) r
 
+-- twice the root of a quarter, or one more; k is at least as large as the number of times that x can be divided by four
 unfoldable pub rootIn : ℕ → ℕ → ℕ
 rootIn zero x = 0
 rootIn (suc k) x = let r = oneMore x (2 * rootIn k (x / 4)) in cond (eqb x 0) 0 r

@@ -1,5 +1,6 @@
 -- Document 01, "Units and rounding": a fraction is rounded once to the nearest, a half away from zero. `toGrain` is the rounding of every
--- filter and correction to a grain; `awayFromZero` is that of millionths and whole units. They are one rule today, and nobody relies on that.
+-- filter and correction to a grain; `awayFromZero` is that of millionths ("Filters") and whole units ("Spread and weights"). They are one rule
+-- today, under two names so that each use says what it rounds; only the laws of `toGrain` use that they agree.
 use Prim.Native.Nat.{ℕ, suc, _+_, _*_, _/_}
 use lib.IntN.{ℤ, pos, negsuc, negℤ}
 

@@ -37,7 +37,7 @@ pub toGrain-near : (x : ℤ) (d : ℕ) → 0 < d → 2 * natAbs (pos d *ℤ toGr
 unfolding toGrain
 toGrain-near = awayFromZero-near
 
--- ---- no larger than the fraction, where that is at most a whole number c
+-- ---- at most a whole number c, where the fraction is at most c
 near-size : (r x : ℤ) (d c : ℕ) → 0 < d → 2 * natAbs (pos d *ℤ r -ℤ x) ≤ d → natAbs x ≤ d * c → natAbs r ≤ c
 near-size r x d c d0 h k =
     let a : natAbs (pos d *ℤ r) ≤ natAbs (pos d *ℤ r -ℤ x) + natAbs x = apart (pos d *ℤ r) x in

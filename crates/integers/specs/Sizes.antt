@@ -44,7 +44,7 @@ abs-mul (pos a) (negsuc b) = abs-neg (pos (a * suc b))
 abs-mul (negsuc a) (pos b) = abs-neg (pos (suc a * b))
 abs-mul (negsuc a) (negsuc b) = refl
 
--- at any place, with two cases for each: `omega` makes at most six
+-- the size of a difference of natural numbers
 pub abs-⊖ : (a b : ℕ) → natAbs (a ⊖ b) ≡ (a - b) + (b - a)
 abs-⊖ a b = ⊖-ind (λ z. natAbs z ≡ (a - b) + (b - a)) a b (λ k e. omega arith) (λ k e. omega arith)
 

@@ -43,8 +43,8 @@ abs-quot (negsuc a) (negsuc b) = div-le-self (suc a) (suc b)
 pub i/ : {a b x y : ℤ} {A B : ℕ} → Reads a x A → Reads b y B → Reads (quotZ a b) (quotZ x y) A
 i/ {x = x} {y = y} h k = record { eq = ap₂ quotZ (h .eq) (k .eq); bound = record { abs = le-trans (abs-quot x y) (h .bound .abs) } }
 
--- what an operation asks; its result, stored and read back;
--- That the bound fits is a test, which computes where the bound is made of literals: `i-fits h tt`
+-- what an operation asks, and its result, stored and read back. That the bound fits is a test, which computes where the bound is made of
+-- literals: `i-fits h tt`
 abbrev pub Room : ℕ → Type 0
 Room B = T (ltb B (2 ^ 63))
 
@@ -104,7 +104,7 @@ i-cast h k = i-in (record { abs = h }) k
 pub kept : {z v : ℤ} → mag z < 2 ^ 63 → z ≡ v → toZ w64 (ofZ w64 z) ≡ v
 kept m e = toZ-ofZ (record { sfits = m }) ∙ e
 
--- what the rounding functions ask: twice either number fits, and the divisor is positive
+-- what the rounding functions ask: 2 x + d and 2 d fit in 64 bits (the bound is 2^61 - 1), and the divisor is positive
 pub record Rounds (x d : ℤ) : Type 0 where
   pub numerator : x within 2305843009213693951
   pub divisor : d within 2305843009213693951

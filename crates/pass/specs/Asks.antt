@@ -23,8 +23,8 @@ pub record Levels (r m : List ℤ) : Type 0 where
   pub left : AllWithin largest r
   pub right : AllWithin largest m
 
--- a stretch of places from lo to below hi of n, and where each looks in another list of k: at place i from lo, and at each further place
--- `step` places on
+-- a stretch of places from lo to below hi of n, and the place of another list, of k numbers, that each takes its number from: place i for lo,
+-- and `step` places more for each further one
 unfoldable pub along : ℕ → ℕ → ℕ → ℕ → ℕ
 along i step lo t = i + step * (t - lo)
 
