@@ -59,7 +59,7 @@ pub record WorkSlices (f a b t s : List ℤ) : Type 0 where
   pub t-long : length t ≡ length f
   pub s-long : length s ≡ length f
 
--- B1 less S2 less T2 of a pass on x, the weights, and B1 less the corrections
+-- a pass on x: its irregular (B13 where x is B1, C13 where x is C1), and B1 less the corrections (C1, D1). One law then serves both passes
 unfoldable pub irregularOf : List ℤ → List ℤ → List ℤ
 irregularOf b1 x = minus (minus b1 (S2 x)) (T2 x)
 

@@ -1,5 +1,5 @@
 -- Sums by index and weighted sums: how large they are, by the sizes of the weights, and how far apart where the values are.
-use mathlib.Core.Path.{_≡_, refl, ap₂, subst, _∙_}
+use mathlib.Core.Path.{_≡_, refl, ap₂, subst}
 use Prim.Native.Nat.{ℕ, zero, suc, _+_, _*_, _-_, _<_, _≤_}
 use native.Mathlib.Nat.{le-refl, add-zero, add-suc, le-trans, le-of-eq, add-mul, mul-le-mul-left, mul-le-mul-right}
 use native.Mathlib.Numerals.{add-one}
@@ -56,10 +56,6 @@ pub sum-minus : (k : ℕ) (f g : ℕ → ℤ) → sumZ k (λ i. f i -ℤ g i) �
 unfolding sumZ
 sum-minus zero f g = refl
 sum-minus (suc k) f g = rw (sum-minus k f g) (rw (rep (sumZ k f), rep (sumZ k g), rep (f k), rep (g k)) (simp ringℤ (omega arith)))
-
-pub wsum-minus : (k : ℕ) (w x y : ℕ → ℤ) → wsum k w (λ i. x i -ℤ y i) ≡ wsum k w x -ℤ wsum k w y
-wsum-minus k w x y = sum-same k _ _ (λ i l. rw (rep (w i), rep (x i), rep (y i)) (simp ringℤ (omega arith)))
-    ∙ sum-minus k (λ i. w i *ℤ x i) (λ i. w i *ℤ y i)
 
 -- ---- the size: each term's, summed
 pub sum-within : (k : ℕ) (f : ℕ → ℤ) (g : ℕ → ℕ) → ((i : ℕ) → i < k → f i within g i) → sumZ k f within sumN k g

@@ -1,13 +1,13 @@
 -- Values of an i64 computation. A signed local holds bits, so what a need shows of an intermediate result is `toZ w64 (ofZ w64 ..)`, nested.
 -- `Reads t z B`: the term t of the need is the number z, and z is within B. A proof puts these together as the code puts the operations together.
 use mathlib.Core.Path.{_≡_, refl, sym, ap₂, _∙_, subst}
-use mathlib.Core.Bool.{Bool, true, false, not, cond}
+use mathlib.Core.Bool.{cond}
 use Prim.Native.Nat.{ℕ, suc, _+_, _*_, _-_, _/_, _^_, _<_, _≤_}
 use native.Mathlib.Nat.{lt-of-le-of-lt, le-trans, div-le-self}
 use native.Mathlib.Omega.{arith}
 use lib.Dec.{T, ltb, ltb→lt}
 use lib.IntN.{ℤ, pos, negsuc, natAbs, _+ℤ_, _-ℤ_, _*ℤ_}
-use lib.Signed.{quotZ, ltZ, mag, _<ℤ_, _≤ℤ_, ltZ-yes, ltZ-no}
+use lib.Signed.{quotZ, ltZ, mag, _<ℤ_}
 use mir.Syntax.{w32, w64}
 use mir.Val.{SFits, toZ, ofZ}
 use mir.Facts.{toZ-ofZ}
@@ -63,13 +63,7 @@ pub i-divisor : {a b x y : ℤ} {A B : ℕ} → Reads a x A → Reads b y B → 
 i-divisor {a} {b} {x} {y} {A} {B} h k p la lb =
     (rw (k .eq) (ofZ-pos y p (lt-of-le-of-lt (k .bound .abs) (ltb→lt B (2 ^ 63) lb))), i-fits (i/ h (i-kept k lb)) la)
 
--- a test against 0
-pub is-neg : {a x : ℤ} {A : ℕ} → Reads a x A → ltZ a (pos 0) ≡ true → x <ℤ pos 0
-is-neg {x = x} h e = ltZ-yes (subst T (sym (rw (h .eq) at e)) tt)
-
-pub not-neg : {a x : ℤ} {A : ℕ} → Reads a x A → ltZ a (pos 0) ≡ false → pos 0 ≤ℤ x
-not-neg {x = x} h e = ltZ-no (subst (λ (c : Bool). T (not c)) (sym (rw (h .eq) at e)) tt)
-
+-- a positive number has a size
 pub pos-abs : (d : ℤ) → pos 0 <ℤ d → 0 < natAbs d
 pos-abs (pos n) h = ltb→lt 0 n (h .lt)
 pos-abs (negsuc n) h = omega arith
