@@ -8,7 +8,7 @@ pub record IsRoot (x r : ℕ) : Type 0 where
   pub not-above : r * r ≤ x
   pub greatest : (s : ℕ) → s * s ≤ x → s ≤ r
 
--- the root as a number that can be worked: one more, where its square is not above
+-- the root as a number that can be worked. r + 1 where the square of that is not above x, else r
 unfoldable pub oneMore : ℕ → ℕ → ℕ
 oneMore x r = cond (leb ((r + 1) * (r + 1)) x) (r + 1) r
 

@@ -5,13 +5,13 @@ use Prim.Native.Nat.{ℕ, suc, _+_, _*_, _/_}
 use lib.IntN.{ℤ, pos, negsuc, negℤ}
 
 -- n / d to the nearest whole number, a half up
-unfoldable pub nearest : ℕ → ℕ → ℕ
-nearest n d = (2 * n + d) / (2 * d)
+unfoldable pub halfUp : ℕ → ℕ → ℕ
+halfUp n d = (2 * n + d) / (2 * d)
 
 -- x / d for millionths and whole units: a half away from zero
 unfoldable pub awayFromZero : ℤ → ℕ → ℤ
-awayFromZero (pos n) d = pos (nearest n d)
-awayFromZero (negsuc n) d = negℤ (pos (nearest (suc n) d))
+awayFromZero (pos n) d = pos (halfUp n d)
+awayFromZero (negsuc n) d = negℤ (pos (halfUp (suc n) d))
 
 -- x / d for every rounding to a grain: a half away from zero
 unfoldable pub toGrain : ℤ → ℕ → ℤ

@@ -2,9 +2,9 @@
 ghost use mathlib.Core.Path.{_≡_};
 ghost use Prim.Native.Nat.{_*_, _≤_, _<_};
 ghost use lib.IntN.{natAbs};
-ghost use Rattle.integers.specs.Rounding.{awayFromZero, toGrain};
+ghost use Rattle.integers.specs.Rounding.{halfUp, awayFromZero, toGrain};
 ghost use Rattle.integers.specs.Root.{root};
-ghost use Rattle.integers.specs.Words.{Rounds, farther};
+ghost use Rattle.integers.specs.Contracts.{largestNumerator, largestDivisor, largestCandidate, Rounds, farther};
 
 // Twice x and d more, away from zero.
 fn farther(x: i64, d: i64) -> i64
@@ -12,6 +12,14 @@ fn farther(x: i64, d: i64) -> i64
     ensures { λ r. ⌜ r ≡ farther x d ⌝ }
 {
     if x < 0 { 2 * x - d } else { 2 * x + d }
+}
+
+// n / d to the nearest whole number, a half up: for the quotient of a weight.
+pub fn half_up(n: u64, d: u64) -> u64
+    requires { ⌜ (0 < d) × (n ≤ largestNumerator) × (d ≤ largestDivisor) ⌝ }
+    ensures { λ r. ⌜ r ≡ halfUp n d ⌝ }
+{
+    (2 * n + d) / (2 * d)
 }
 
 // x / d to the nearest whole number, a half away from zero: for millionths and whole units.
@@ -39,23 +47,21 @@ pub fn size(x: i64) -> u64
 
 // A power of two whose square is above x: its exponent is half the number of x's bits, rounded up.
 fn above(x: u64) -> u64
-    ensures { λ r. ⌜ (x < r * r) × (1 ≤ r) × (r ≤ 4294967296) ⌝ }
+    ensures { λ r. ⌜ (x < r * r) × (1 ≤ r) × (r ≤ largestCandidate) ⌝ }
 {
     1u64 << ((65 - u64::leading_zeros(x)) / 2)
 }
 
-// The greatest whole number whose square is not above x. The candidate is never below it, and the mean of it and its quotient narrows it.
+// The greatest whole number whose square is not above x. The candidate is above it, and the mean of it and its quotient, never below the root,
+// narrows it until its square is not above x.
 pub fn root(x: u64) -> u64
     ensures { λ r. ⌜ r ≡ root x ⌝ }
 {
-    if x == 0 {
-        return 0;
-    }
     let mut r = above(x);
     let found = loop {
         let next = (r + x / r) / 2;
-        if r <= next {
-            break r;
+        if next * next <= x {
+            break next;
         }
         r = next;
     };

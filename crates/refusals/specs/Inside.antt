@@ -3,11 +3,11 @@ use Prim.Native.Nat.{ℕ}
 use mathlib.Core.Bool.{Bool, _&&_}
 use lib.Dec.{leb}
 use lib.IntN.{ℤ, natAbs}
-use Rattle.refusals.specs.Limits.{year, largestFigure, fullWeight}
+use Rattle.refusals.specs.Limits.{monthsOfYear, largestFigure, fullWeight}
 
 -- start month: 1 to 12
 unfoldable pub startInside : ℕ → Bool
-startInside start = leb 1 start && leb start year
+startInside start = leb 1 start && leb start monthsOfYear
 
 -- figure: -200,000 to 200,000
 unfoldable pub figureInside : ℤ → Bool

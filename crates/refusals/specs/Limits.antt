@@ -13,8 +13,8 @@ abbrev pub mostMonths : ℕ
 mostMonths = 600
 
 -- start month: 1 to 12; the months of a year, and the period of a desk file
-abbrev pub year : ℕ
-year = 12
+abbrev pub monthsOfYear : ℕ
+monthsOfYear = 12
 
 -- figure: -200,000 to 200,000
 abbrev pub largestFigure : ℕ

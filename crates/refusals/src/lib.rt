@@ -14,7 +14,7 @@ pub const LEAST_MONTHS: usize = 72;
 pub const MOST_MONTHS: usize = 600;
 
 // Months in a year: the last start month, and the period of a desk file.
-pub const YEAR: usize = 12;
+pub const MONTHS_OF_YEAR: usize = 12;
 
 // A figure's size, in units.
 pub const LARGEST_FIGURE: i32 = 200000;
@@ -79,7 +79,7 @@ pub fn start_outside(start: u8) -> bool
     if start < 1 {
         return true;
     }
-    YEAR < start as usize
+    MONTHS_OF_YEAR < start as usize
 }
 
 // Row 5: a figure outside its limits.

@@ -8,15 +8,16 @@ use mir.Syntax.{w64}
 use mir.Val.{toZ, ofZ}
 use mir.Facts.{toZ-ofZ}
 use borrow.Author.Needs.{needs}
-use Rattle.integers.specs.Sizes.{abs-mul}
-use Rattle.integers.specs.Words.{Reads, farther, i-arg, i-lit, i*, i/, i-fits, i-kept, i-divisor, i-call, pos-abs}
-use Rattle.integers.specs.RoundingLaws.{farther-quot, farther-within}
+use Rattle.integers.proofs.SizeLaws.{abs-mul}
+use Rattle.integers.proofs.Signed64.{Reads, i-arg, i-lit, i*, i/, i-fits, i-kept, i-divisor, i-call, pos-abs}
+use Rattle.integers.specs.Contracts.{largestNumerator, largestDivisor, farther}
+use Rattle.integers.proofs.RoundingLaws.{farther-quot, farther-within}
 use Rattle.integers.proofs.away_from_zero.Statement.{statement}
 use Rattle.integers.proofs.away_from_zero.Tie as tie
 
 module _ (s : tie.Start) where
   -- the divisor and its double
-  twice-d : Reads (pos 2 *ℤ toZ w64 (ofZ w64 (s .args .d))) (pos 2 *ℤ s .args .d) (2 * 2305843009213693951)
+  twice-d : Reads (pos 2 *ℤ toZ w64 (ofZ w64 (s .args .d))) (pos 2 *ℤ s .args .d) (2 * largestDivisor)
   twice-d = i* (i-lit 2) (i-arg (s .fits .d) (s .pre .divisor))
 
   two-d : 0 < natAbs (pos 2 *ℤ s .args .d)
@@ -25,7 +26,7 @@ module _ (s : tie.Start) where
 farther-requires : tie.Need-farther-requires
 farther-requires c κs = search needs
 
-numerator : (c : tie.After-farther) → Reads (toZ w64 (ofZ w64 (c .farther .result))) (farther (c .before .args .x) (c .before .args .d)) (2 * 2305843009213693951 + 2305843009213693951)
+numerator : (c : tie.After-farther) → Reads (toZ w64 (ofZ w64 (c .farther .result))) (farther (c .before .args .x) (c .before .args .d)) (2 * largestNumerator + largestDivisor)
 numerator c = let s = c .before in i-call (c .farther .ok) (c .farther .ensures ∙ ap₂ farther (toZ-ofZ (s .fits .x)) (toZ-ofZ (s .fits .d))) (farther-within (s .pre .numerator) (s .pre .divisor))
 
 mul-result : tie.Need-mul-result

@@ -2,15 +2,16 @@
 -- Assumes nothing.
 use mir.Syntax.{w64}
 use mir.Val.{toZ, ofZ}
-use Rattle.integers.specs.Words.{Reads, farther, i-arg, i-lit, i+, i-, i*, i-fits, i-kept}
+use Rattle.integers.proofs.Signed64.{Reads, i-arg, i-lit, i+, i-, i*, i-fits, i-kept}
+use Rattle.integers.specs.Contracts.{largestNumerator, largestDivisor, farther}
 use Rattle.integers.proofs.farther.Statement.{statement}
 use Rattle.integers.proofs.farther.Tie as tie
 
 module _ (s : tie.Start) where
-  x-is : Reads (toZ w64 (ofZ w64 (s .args .x))) (s .args .x) 2305843009213693951
+  x-is : Reads (toZ w64 (ofZ w64 (s .args .x))) (s .args .x) largestNumerator
   x-is = i-arg (s .fits .x) (s .pre .numerator)
 
-  d-is : Reads (toZ w64 (ofZ w64 (s .args .d))) (s .args .d) 2305843009213693951
+  d-is : Reads (toZ w64 (ofZ w64 (s .args .d))) (s .args .d) largestDivisor
   d-is = i-arg (s .fits .d) (s .pre .divisor)
 
 mul-result : tie.Need-mul-result

@@ -4,7 +4,7 @@ use mathlib.Core.Path.{ap₂, _∙_}
 use lib.IntN.{ℤ, natAbs}
 use Rattle.integers.specs.Rounding.{awayFromZero, toGrain}
 use native.Mathlib.Omega.{arith}
-use Rattle.integers.specs.Words.{i-arg, kept, rounds}
+use Rattle.integers.proofs.Signed64.{i-arg, kept, rounds}
 use Rattle.integers.proofs.to_grain.Statement.{statement}
 use Rattle.integers.proofs.to_grain.Tie as tie
 

@@ -5,8 +5,8 @@ use native.Mathlib.Omega.{arith}
 use lib.Dec.{ltb, leb, ltb→lt, lt→ltb, leb→le, le→leb}
 use lib.IntN.{ℤ, pos, negsuc}
 use lib.Signed.{_≤ℤ_, _<ℤ_, leZ-yes, ltZ-yes}
-use Rattle.integers.specs.Differences.{pp, nn, rep, _⊖_, ⊖-ind}
-use Rattle.integers.specs.Sizes.{absℤ}
+use Rattle.integers.proofs.Differences.{pp, nn, rep, _⊖_, ⊖-ind}
+use Rattle.integers.proofs.SizeLaws.{absℤ}
 
 pub ≤ℤ-iff : (a b c d : ℕ) → (a ⊖ b ≤ℤ c ⊖ d) ↔ (a + d ≤ c + b)
 ≤ℤ-iff a b c d = (to, from)

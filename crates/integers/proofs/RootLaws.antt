@@ -1,12 +1,13 @@
 -- The root is the greatest whole number whose square is not above its operand, and the only one.
-use Prim.Native.Nat.{ℕ, zero, suc, _+_, _*_, _-_, _/_, _≤_, _<_}
+use Prim.Native.Nat.{ℕ, zero, suc, _+_, _*_, _-_, _/_, _^_, _≤_, _<_}
 use mathlib.Core.Path.{_≡_, refl}
 use mathlib.Core.Bool.{Bool, true, false, cond}
-use native.Mathlib.Nat.{mul-le-mul, le-antisymm, div-lt-iff-lt-mul, le-div-iff-mul-le}
+use native.Mathlib.Nat.{mul-le-mul, le-antisymm, div-lt-iff-lt-mul}
 use native.Mathlib.Decide.{decLe}
 use native.Mathlib.Omega.{arith}
 use borrow.Author.Tests.{leb-true, leb-false, eqb-true, eqb-false}
 use lib.Dec.{leb, eqb}
+use Rattle.integers.specs.Contracts.{largestCandidate}
 use Rattle.integers.specs.Root.{IsRoot, oneMore, rootIn, root}
 
 -- the square of r is not above x, that of the next number is
@@ -45,7 +46,7 @@ root-is x = between-root (root-between x)
 pub root-unique : {x r : ℕ} → Between x r → r ≡ root x
 root-unique {x} {r} h = le-antisymm (root-is x .greatest r (h .low)) (between-root h .greatest (root x) (root-is x .not-above))
 
--- ---- a candidate that is not below the root, and the mean of it and its quotient
+-- ---- a candidate that is above the root, and the mean of it and its quotient
 grows : (a d : ℕ) → 4 * (a * (a + d)) ≤ (a + (a + d)) * (a + (a + d))
 grows a d = omega arith
 
@@ -65,16 +66,18 @@ mean-above x r q n h k = omega (arith, four-products (q + 1) r, mul-le-mul k k)
 pub narrowed : (x r : ℕ) → 0 < r → x < ((r + x / r) / 2 + 1) * ((r + x / r) / 2 + 1)
 narrowed x r l = mean-above x r (x / r) ((r + x / r) / 2) (quotient-above x r l) (omega arith)
 
-pub mean-some : (x r : ℕ) → 0 < r → 0 < x → 1 ≤ (r + x / r) / 2
-mean-some x r l h = go (decLe 2 r)
-  where
-    go : Dec (2 ≤ r) → 1 ≤ (r + x / r) / 2
-    go (yes k) = omega arith
-    go (no k) = let q : 1 ≤ x / r = le-div-iff-mul-le {k = r} l .1 (omega arith) in omega arith
+-- the quotient of a candidate above the root is below it, and so is the mean
+pub quotient-below : (x r : ℕ) → 0 < r → x < r * r → x / r < r
+quotient-below x r l h = div-lt-iff-lt-mul {k = r} l .1 h
 
--- the quotient is little larger than the candidate, and where the mean is no smaller, the candidate's square is not above
-pub quotient-most : (x r : ℕ) → 0 < r → x < (r + 1) * (r + 1) → x / r ≤ r + 2
-quotient-most x r l h = let q : x / r < r + 3 = div-lt-iff-lt-mul {k = r} l .1 (omega arith) in omega arith
+pub mean-below : (x r : ℕ) → 0 < r → x < r * r → (r + x / r) / 2 < r
+mean-below x r l h = omega (arith, quotient-below x r l h)
 
-pub found-low : (x r : ℕ) → 0 < r → r ≤ (r + x / r) / 2 → r * r ≤ x
-found-low x r l h = let q : r ≤ x / r = omega arith in le-div-iff-mul-le {k = r} l .0 q
+-- its square fits in 64 bits
+pub mean-fits : (x r : ℕ) → 0 < r → r ≤ largestCandidate → x < r * r → (r + x / r) / 2 * ((r + x / r) / 2) < 2 ^ 64
+mean-fits x r l m h = let q : (r + x / r) / 2 ≤ 4294967295 = omega (arith, mean-below x r l h) in omega (arith, mul-le-mul q q)
+
+-- where its square is above x, it is a candidate again, and no zero
+pub mean-some : (x n : ℕ) → x < n * n → 1 ≤ n
+mean-some x zero h = omega arith
+mean-some x (suc n) h = omega arith

@@ -1,17 +1,18 @@
 -- Values of an i64 computation. A signed local holds bits, so what a need shows of an intermediate result is `toZ w64 (ofZ w64 ..)`, nested.
 -- `Reads t z B`: the term t of the need is the number z, and z is within B. A proof puts these together as the code puts the operations together.
 use mathlib.Core.Path.{_≡_, refl, sym, ap₂, _∙_, subst}
-use mathlib.Core.Bool.{cond}
 use Prim.Native.Nat.{ℕ, suc, _+_, _*_, _-_, _/_, _^_, _<_, _≤_}
 use native.Mathlib.Nat.{lt-of-le-of-lt, le-trans, div-le-self}
 use native.Mathlib.Omega.{arith}
 use lib.Dec.{T, ltb, ltb→lt}
 use lib.IntN.{ℤ, pos, negsuc, natAbs, _+ℤ_, _-ℤ_, _*ℤ_}
-use lib.Signed.{quotZ, ltZ, mag, _<ℤ_}
+use lib.Signed.{quotZ, mag, _<ℤ_}
 use mir.Syntax.{w32, w64}
 use mir.Val.{SFits, toZ, ofZ}
 use mir.Facts.{toZ-ofZ}
-use Rattle.integers.specs.Sizes.{_within_, sfits32, sfits64, w-lit, w+, w-, w*, w≤, abs-neg}
+use Rattle.integers.specs.Sizes.{_within_}
+use Rattle.integers.specs.Contracts.{largestNumerator, largestDivisor, Rounds}
+use Rattle.integers.proofs.SizeLaws.{sfits32, sfits64, w-lit, w+, w-, w*, w≤, abs-neg}
 
 pub record Reads (t z : ℤ) (B : ℕ) : Type 0 where
   pub eq : t ≡ z
@@ -98,19 +99,10 @@ i-cast h k = i-in (record { abs = h }) k
 pub kept : {z v : ℤ} → mag z < 2 ^ 63 → z ≡ v → toZ w64 (ofZ w64 z) ≡ v
 kept m e = toZ-ofZ (record { sfits = m }) ∙ e
 
--- what the rounding functions ask: 2 x + d and 2 d fit in 64 bits (the bound is 2^61 - 1), and the divisor is positive
-pub record Rounds (x d : ℤ) : Type 0 where
-  pub numerator : x within 2305843009213693951
-  pub divisor : d within 2305843009213693951
-  pub positive : pos 0 <ℤ d
-
-pub rounds : {t u x d : ℤ} {A B : ℕ} → Reads t x A → Reads u d B → A ≤ 2305843009213693951 → B ≤ 2305843009213693951 → pos 0 <ℤ d → Rounds t u
+-- what the rounding functions ask
+pub rounds : {t u x d : ℤ} {A B : ℕ} → Reads t x A → Reads u d B → A ≤ largestNumerator → B ≤ largestDivisor → pos 0 <ℤ d → Rounds t u
 rounds h k a b p = record {
   numerator = i-within (i≤ h a);
   divisor = i-within (i≤ k b);
   positive = subst (λ (z : ℤ). pos 0 <ℤ z) (sym (k .eq)) p;
 }
-
--- what they put over twice the divisor: twice x and d more, away from zero
-unfoldable pub farther : ℤ → ℤ → ℤ
-farther x d = cond (ltZ x (pos 0)) (pos 2 *ℤ x -ℤ d) (pos 2 *ℤ x +ℤ d)

@@ -7,19 +7,20 @@ use native.Mathlib.Omega.{arith}
 use lib.Dec.{T, ltb→lt}
 use lib.IntN.{ℤ, pos, negsuc, negℤ, natAbs, _+ℤ_, _-ℤ_, _*ℤ_}
 use lib.Signed.{quotZ, ltZ, _<ℤ_, _≤ℤ_, ltZ-yes, ltZ-no}
-use Rattle.integers.specs.Differences.{rep, ringℤ}
-use Rattle.integers.specs.Sizes.{_within_, by-abs, abs-⊖, abs-mul, w-lit, w+, w-, w*}
-use Rattle.integers.specs.Rounding.{nearest, awayFromZero, toGrain}
-use Rattle.integers.specs.Words.{farther}
+use Rattle.integers.proofs.Differences.{rep, ringℤ}
+use Rattle.integers.specs.Sizes.{_within_}
+use Rattle.integers.proofs.SizeLaws.{by-abs, abs-⊖, abs-mul, w-lit, w+, w-, w*}
+use Rattle.integers.specs.Rounding.{halfUp, awayFromZero, toGrain}
+use Rattle.integers.specs.Contracts.{farther}
 
 -- ---- the nearest whole number
-nearest-low : (n d : ℕ) → 2 * (d * nearest n d) ≤ 2 * n + d
-unfolding nearest
-nearest-low n d = omega (arith, div-add-mod (2 * n + d) (2 * d))
+halfUp-low : (n d : ℕ) → 2 * (d * halfUp n d) ≤ 2 * n + d
+unfolding halfUp
+halfUp-low n d = omega (arith, div-add-mod (2 * n + d) (2 * d))
 
-nearest-high : (n d : ℕ) → 0 < d → 2 * n ≤ 2 * (d * nearest n d) + d
-unfolding nearest
-nearest-high n d h = omega (arith, div-add-mod (2 * n + d) (2 * d), mod-lt (2 * n + d) {m = 2 * d} (omega arith))
+halfUp-high : (n d : ℕ) → 0 < d → 2 * n ≤ 2 * (d * halfUp n d) + d
+unfolding halfUp
+halfUp-high n d h = omega (arith, div-add-mod (2 * n + d) (2 * d), mod-lt (2 * n + d) {m = 2 * d} (omega arith))
 
 -- ---- at most half a step away, whatever the rounding does with a half
 above : (n q d : ℕ) → 2 * (d * q) ≤ 2 * n + d → 2 * n ≤ 2 * (d * q) + d → 2 * natAbs (pos d *ℤ pos q -ℤ pos n) ≤ d
@@ -30,8 +31,8 @@ below n q d h k = simp (ringℤ, abs-⊖) (omega arith)
 
 pub awayFromZero-near : (x : ℤ) (d : ℕ) → 0 < d → 2 * natAbs (pos d *ℤ awayFromZero x d -ℤ x) ≤ d
 unfolding awayFromZero
-awayFromZero-near (pos n) d h = above n (nearest n d) d (nearest-low n d) (nearest-high n d h)
-awayFromZero-near (negsuc n) d h = below (suc n) (nearest (suc n) d) d (nearest-low (suc n) d) (nearest-high (suc n) d h)
+awayFromZero-near (pos n) d h = above n (halfUp n d) d (halfUp-low n d) (halfUp-high n d h)
+awayFromZero-near (negsuc n) d h = below (suc n) (halfUp (suc n) d) d (halfUp-low (suc n) d) (halfUp-high (suc n) d h)
 
 pub toGrain-near : (x : ℤ) (d : ℕ) → 0 < d → 2 * natAbs (pos d *ℤ toGrain x d -ℤ x) ≤ d
 unfolding toGrain
@@ -59,7 +60,7 @@ no-less : (n : ℕ) → n < 0 → ⊥
 no-less n h = omega arith
 
 pub away-below : (x d : ℤ) → x <ℤ pos 0 → pos 0 <ℤ d → quotZ (pos 2 *ℤ x -ℤ d) (pos 2 *ℤ d) ≡ awayFromZero x (natAbs d)
-unfolding awayFromZero nearest
+unfolding awayFromZero halfUp
 away-below (pos n) d h k = absurd (no-less n (ltb→lt n 0 (h .lt)))
 away-below (negsuc n) (negsuc m) h k = absurd (k .lt)
 away-below (negsuc n) (pos m) h k = ap (λ (z : ℤ). quotZ z (pos 2 *ℤ pos m)) e ∙ ap (λ (s : ℕ). negℤ (pos (s / (2 * m)))) (omega arith)
@@ -68,7 +69,7 @@ away-below (negsuc n) (pos m) h k = ap (λ (z : ℤ). quotZ z (pos 2 *ℤ pos m)
     e = simp ringℤ (omega arith)
 
 pub away-above : (x d : ℤ) → pos 0 ≤ℤ x → pos 0 <ℤ d → quotZ (pos 2 *ℤ x +ℤ d) (pos 2 *ℤ d) ≡ awayFromZero x (natAbs d)
-unfolding awayFromZero nearest
+unfolding awayFromZero halfUp
 away-above (negsuc n) d h k = absurd (h .le)
 away-above (pos n) (negsuc m) h k = absurd (k .lt)
 away-above (pos n) (pos m) h k = refl
@@ -82,10 +83,10 @@ farther-quot x d k = go (ltZ x (pos 0)) refl
     go true e = away-below x d (ltZ-yes (subst T (sym e) tt)) k
     go false e = away-above x d (ltZ-no (subst (λ (b : Bool). T (not b)) (sym e) tt)) k
 
-pub farther-within : {x d : ℤ} {b : ℕ} → x within b → d within b → farther x d within (2 * b + b)
+pub farther-within : {x d : ℤ} {a b : ℕ} → x within a → d within b → farther x d within (2 * a + b)
 unfolding farther
-farther-within {x} {d} {b} h k = go (ltZ x (pos 0))
+farther-within {x} {d} {a} {b} h k = go (ltZ x (pos 0))
   where
-    go : (c : Bool) → cond c (pos 2 *ℤ x -ℤ d) (pos 2 *ℤ x +ℤ d) within (2 * b + b)
+    go : (c : Bool) → cond c (pos 2 *ℤ x -ℤ d) (pos 2 *ℤ x +ℤ d) within (2 * a + b)
     go true = w- (w* (w-lit 2) h) k
     go false = w+ (w* (w-lit 2) h) k

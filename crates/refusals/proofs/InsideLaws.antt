@@ -5,7 +5,7 @@ use mathlib.Core.Bool.{Bool, true, false, not, _&&_}
 use borrow.Author.Tests.{le-ltb, lt-ltb, leb-true, leb-false}
 use lib.Dec.{leb, ltb}
 use lib.IntN.{ℤ, natAbs}
-use Rattle.refusals.specs.Limits.{year, largestFigure, fullWeight}
+use Rattle.refusals.specs.Limits.{monthsOfYear, largestFigure, fullWeight}
 use Rattle.refusals.specs.Inside.{startInside, figureInside, weightInside}
 
 -- above is not at most
@@ -20,11 +20,11 @@ both : (a b : Bool) → (a && b) ≡ true → (a ≡ true) × (b ≡ true)
 both true b e = (refl, e)
 both false b e = (e, cc)
 
-pub start-inside : (start : ℕ) → startInside start ≡ true → (1 ≤ start) × (start ≤ year)
+pub start-inside : (start : ℕ) → startInside start ≡ true → (1 ≤ start) × (start ≤ monthsOfYear)
 unfolding startInside
 start-inside start e =
-    let h = both (leb 1 start) (leb start year) e in
-    (leb-true 1 start (h .0), leb-true start year (h .1))
+    let h = both (leb 1 start) (leb start monthsOfYear) e in
+    (leb-true 1 start (h .0), leb-true start monthsOfYear (h .1))
 
 pub figure-inside : (figure : ℤ) → figureInside figure ≡ true → natAbs figure ≤ largestFigure
 unfolding figureInside

@@ -1,0 +1,26 @@
+-- What the rounding functions and the root ask of their arguments. Nothing here is promised to a caller of the desk.
+use mathlib.Core.Bool.{cond}
+use Prim.Native.Nat.{ℕ}
+use lib.IntN.{ℤ, pos, _+ℤ_, _-ℤ_, _*ℤ_}
+use lib.Signed.{ltZ, _<ℤ_}
+use Rattle.integers.specs.Sizes.{_within_}
+
+-- twice the largest numerator and the largest divisor fit together in 64 bits, signed
+abbrev pub largestNumerator : ℕ
+largestNumerator = 4_000_000_000_000_000_000
+
+abbrev pub largestDivisor : ℕ
+largestDivisor = 1_000_000_000_000_000_000
+
+-- the root's candidates are no larger: 2^32
+abbrev pub largestCandidate : ℕ
+largestCandidate = 4_294_967_296
+
+pub record Rounds (x d : ℤ) : Type 0 where
+  pub numerator : x within largestNumerator
+  pub divisor : d within largestDivisor
+  pub positive : pos 0 <ℤ d
+
+-- what is put over twice the divisor: twice x and d more, away from zero
+unfoldable pub farther : ℤ → ℤ → ℤ
+farther x d = cond (ltZ x (pos 0)) (pos 2 *ℤ x -ℤ d) (pos 2 *ℤ x +ℤ d)

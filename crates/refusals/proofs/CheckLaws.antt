@@ -1,0 +1,99 @@
+-- Laws of checks in their order. A program that has passed i checks keeps `Before i`; where it refuses it shows `Stopped`, and where it accepts,
+-- that it is before the end.
+use Prim.Native.Nat.{ℕ, zero, suc}
+use mathlib.Core.Path.{_≡_, refl, ap}
+use mathlib.Core.Bool.{Bool, true, false, cond}
+use mathlib.Core.List.{List, [], _∷_}
+use native.Mathlib.Omega.{arith}
+use lib.ListN.{length, drop}
+use Rattle.refusals.specs.declared.Refusal.{Refusal}
+use Rattle.refusals.specs.declared.Found.{Found}
+use Rattle.refusals.specs.declared.Found.the-variants.{At, Nowhere}
+use Rattle.refusals.specs.Sheet.{row, Answer, success, refusal, refusalOf}
+use Rattle.refusals.specs.Checks.{Check, checkRow, checkEach, firstToApply}
+
+-- the first i do not apply
+abbrev pub Before : ℕ → List Check → Type 0
+Before zero ks = Unit
+Before (suc i) [] = ⊥
+Before (suc i) (k ∷ ks) = (k .applies ≡ false) × Before i ks
+
+-- the check at place i: it does not apply; it is c
+abbrev pub PassedAt : ℕ → List Check → Type 0
+PassedAt i [] = ⊥
+PassedAt zero (k ∷ ks) = k .applies ≡ false
+PassedAt (suc i) (k ∷ ks) = PassedAt i ks
+
+abbrev pub CheckAt : ℕ → Check → List Check → Type 0
+CheckAt i c [] = ⊥
+CheckAt zero c (k ∷ ks) = k ≡ c
+CheckAt (suc i) c (k ∷ ks) = CheckAt i c ks
+
+-- one test after the other
+infixr 40 _&_
+abbrev pub _&_ : {A B : Type 0} → A → B → A × B
+a & b = (a, b)
+
+pub one-more : (ks : List Check) (i : ℕ) → Before i ks → PassedAt i ks → Before (suc i) ks
+one-more [] i h t = absurd t
+one-more (k ∷ ks) zero h t = (t, tt)
+one-more (k ∷ ks) (suc i) h t = (h .0, one-more ks i (h .1) t)
+
+-- ---- a check that applies, and one that does not
+abbrev pub refusing : ℕ → ℕ → Check
+refusing number place = record { number = number; applies = true; place = place }
+
+pub row-applies : (k : ℕ) {b : Bool} → b ≡ true → checkRow k b ≡ refusing k 0
+row-applies k e = ap (checkRow k) e
+
+pub each-applies : (k : ℕ) {t : ℕ} {f : Found} → f ≡ At t → checkEach k f ≡ refusing k t
+each-applies k e = ap (checkEach k) e
+
+pub each-passed : (k : ℕ) {f : Found} → f ≡ Nowhere → checkEach k f .applies ≡ false
+each-passed k e = ap (λ (f : Found). checkEach k f .applies) e
+
+pub each-nowhere : (k : ℕ) (f : Found) → checkEach k f .applies ≡ false → f ≡ Nowhere
+each-nowhere k (At t) e = let z : _≡_ {A = ℕ} 0 1 = cc in absurd (omega arith)
+each-nowhere k Nowhere e = refl
+
+-- ---- the answer. A refusal q is that of the first check that applies
+pub record Stopped (q : Refusal) (ks : List Check) : Type 0 where
+  pub at : ℕ
+  pub before : Before at ks
+  pub here : CheckAt at (refusing (row q .number) (row q .place)) ks
+
+pub no-success : {A : Type 0} {k p : ℕ} {a : A} → _≡_ {A = Answer A} (refusal k p) (success a) → ⊥
+no-success e = let z : _≡_ {A = ℕ} 0 1 = cc in omega arith
+
+module _ {A : Type 0} where
+  pub stop-at : (ks : List Check) (otherwise : Answer A) (i number place : ℕ) → Before i ks → CheckAt i (refusing number place) ks
+      → refusal number place ≡ firstToApply ks otherwise
+  stop-at [] otherwise i number place h e = absurd e
+  stop-at (k ∷ ks) otherwise zero number place h e = rw e
+  stop-at (k ∷ ks) otherwise (suc i) number place h e = rw (h .0) (stop-at ks otherwise i number place (h .1) e)
+
+  pub stopped : {q : Refusal} {ks : List Check} (otherwise : Answer A) → Stopped q ks → refusalOf q ≡ firstToApply ks otherwise
+  stopped {q} {ks} otherwise s = stop-at ks otherwise (s .at) (row q .number) (row q .place) (s .before) (s .here)
+
+  -- the first i do not apply: what is left decides
+  pub past-first : (ks : List Check) (otherwise : Answer A) (i : ℕ) → Before i ks → firstToApply ks otherwise ≡ firstToApply (drop i ks) otherwise
+  past-first ks otherwise zero h = refl
+  past-first [] otherwise (suc i) h = absurd h
+  past-first (k ∷ ks) otherwise (suc i) h = rw (h .0) (past-first ks otherwise i (h .1))
+
+  pub none-applies : (ks : List Check) (otherwise : Answer A) → Before (length ks) ks → otherwise ≡ firstToApply ks otherwise
+  none-applies [] otherwise h = refl
+  none-applies (k ∷ ks) otherwise h = rw (h .0) (none-applies ks otherwise (h .1))
+
+  -- and back, where the answer is a success
+  past : (b : Bool) (k p : ℕ) (next : Answer A) (a : A) → cond b (refusal k p) next ≡ success a → (b ≡ false) × (next ≡ success a)
+  past true k p next a e = absurd (no-success e)
+  past false k p next a e = (refl, e)
+
+  pub all-before : (ks : List Check) (otherwise : Answer A) (a : A) → firstToApply ks otherwise ≡ success a
+      → Before (length ks) ks × (otherwise ≡ success a)
+  all-before [] otherwise a e = (tt, e)
+  all-before (k ∷ ks) otherwise a e =
+      let h = past (k .applies) (k .number) (k .place) (firstToApply ks otherwise) a e in
+      let t = all-before ks otherwise a (h .1) in
+      ((h .0, t .0), t .1)
