@@ -4,10 +4,11 @@ use mathlib.Core.List.{List, [], _∷_, map}
 use Prim.Native.Nat.{ℕ}
 use lib.IntN.{ℤ, pos}
 use Rattle.integers.specs.Lists.{tabFrom, tab}
-use Rattle.integers.specs.Rounding.{nearest, awayFromZero, toGrain}
+use Rattle.integers.specs.Rounding.{halfUp, awayFromZero, toGrain}
 use Rattle.integers.specs.Sums.{sumZ}
-use Rattle.filters.specs.Filter.{weightAt, denominator, before, after, rowAt, dot, weighed, valueAt, reach, inside}
-use Rattle.filters.specs.Tables.{table2x12}
+use Rattle.filters.specs.Filter.{earlier, later, rowAt, dot, weightedSum, valueAt, reach, inside}
+use Rattle.rows.specs.FilterTables.{table2x12}
+use Rattle.rows.specs.Table.{rowWeight, denominator}
 
 abbrev whole : List ℕ → List ℤ
 whole = map pos
@@ -33,5 +34,5 @@ trend = whole
     ∷ 114358 ∷ 114825 ∷ 115300 ∷ 115767 ∷ 116308 ∷ 116833 ∷ 117292 ∷ [])
 
 pub book-2x12 : inside table2x12 original ≡ trend
-unfolding tabFrom tab sumZ nearest awayFromZero toGrain weightAt denominator before after rowAt dot weighed valueAt reach inside table2x12
+unfolding tabFrom tab sumZ halfUp awayFromZero toGrain rowWeight denominator earlier later rowAt dot weightedSum valueAt reach inside table2x12
 book-2x12 = refl

@@ -1,80 +1,24 @@
--- How far a rounded step is from the exact one: one law for each thing that a step does.
-use mathlib.Core.Path.{_≡_, refl, sym, ap, subst, _∙_}
-use mathlib.Core.List.{List, [], _∷_}
-use Prim.Native.Nat.{ℕ, zero, suc, _+_, _*_, _-_, _/_, _≤_, _<_}
+-- How far a filter's rounded values are from the exact ones.
+use mathlib.Core.Path.{_≡_, refl, ap, subst, _∙_}
+use mathlib.Core.List.{List}
+use Prim.Native.Nat.{ℕ, _+_, _*_, _-_, _/_, _≤_, _<_}
 use native.Mathlib.Nat.{le-trans, mul-le-mul-left, mul-le-mul-right}
 use native.Mathlib.Omega.{arith}
 use lib.ListN.{length}
 use lib.IntN.{ℤ, pos, natAbs, _+ℤ_, _-ℤ_, _*ℤ_}
-use Rattle.integers.specs.Differences.{rep, ringℤ}
-use Rattle.integers.specs.Sizes.{absℤ, abs-add, abs-sub, abs-mul}
-use Rattle.integers.specs.Lists.{_‼_, tabFrom, tab}
-use Rattle.integers.specs.Filling.{length-tab}
+use Rattle.integers.proofs.Differences.{rep, ringℤ}
+use Rattle.integers.proofs.SizeLaws.{abs-add, abs-mul}
+use Rattle.integers.specs.Lists.{_‼_}
 use Rattle.integers.specs.Rounding.{toGrain}
-use Rattle.integers.specs.RoundingLaws.{toGrain-near}
-use Rattle.integers.specs.Sums.{wsum, norm, wsum-near}
-use Rattle.filters.specs.Filter.{Table, weightAt, denominator, before, after, rowAt, dot, weighed, valueAt, exactAt, filter, exact, reach, inside, exactInside, minus, times, pick}
-use Rattle.filters.specs.Distance.{Close, Within}
-use Rattle.filters.proofs.Tests.{AllFair, fair-place}
-
--- ---- lists by place: close at each number is close as a list
-closeFrom : (lo n b k : ℕ) (f g : ℕ → ℤ) → ((t : ℕ) → natAbs (pos k *ℤ f t -ℤ g t) * 1000 ≤ b * k)
-    → (t : ℕ) → natAbs (pos k *ℤ (tabFrom lo n f ‼ t) -ℤ (tabFrom lo n g ‼ t)) * 1000 ≤ b * k
-unfolding tabFrom
-closeFrom lo zero b k f g h t = omega arith
-closeFrom lo (suc n) b k f g h zero = h lo
-closeFrom lo (suc n) b k f g h (suc t) = closeFrom (suc lo) n b k f g h t
-
-close-tab : (n b k : ℕ) (f g : ℕ → ℤ) → ((t : ℕ) → natAbs (pos k *ℤ f t -ℤ g t) * 1000 ≤ b * k) → Close b k (tab n f) (tab n g)
-unfolding tab
-close-tab n b k f g h = record { long = length-tab n f ∙ sym (length-tab n g); close = closeFrom 0 n b k f g h }
-
--- ---- figures stand for themselves
-pub close-self : (x : List ℤ) → Close 0 1 x x
-close-self x = record { long = refl; close = λ t. omega (arith, same (x ‼ t)) }
-  where
-    same : (z : ℤ) → natAbs (pos 1 *ℤ z -ℤ z) ≤ 0
-    same z = rw (rep z) (simp absℤ (omega arith))
-
--- ---- a multiple of the denominator
-pub length-times : (m : ℕ) (e : List ℤ) → length (times m e) ≡ length e
-unfolding times
-length-times m [] = refl
-length-times m (z ∷ zs) = ap suc (length-times m zs)
-
-pub at-times : (m : ℕ) (e : List ℤ) (t : ℕ) → times m e ‼ t ≡ pos m *ℤ (e ‼ t)
-unfolding times
-at-times m [] t = ap pos (omega arith)
-at-times m (z ∷ zs) zero = refl
-at-times m (z ∷ zs) (suc t) = at-times m zs t
-
-pub close-times : {b k : ℕ} {x e : List ℤ} (m : ℕ) → Close b k x e → Close b (k * m) x (times m e)
-close-times {b} {k} {x} {e} m h =
-    record { long = h .long ∙ sym (length-times m e); close = λ t. rw (at-times m e t) (scaled (x ‼ t) (e ‼ t) (h .close t)) }
-  where
-    out : (x e : ℤ) → pos (k * m) *ℤ x -ℤ pos m *ℤ e ≡ pos m *ℤ (pos k *ℤ x -ℤ e)
-    out x e = rw (rep x, rep e) (simp ringℤ (omega arith))
-
-    scaled : (x e : ℤ) → natAbs (pos k *ℤ x -ℤ e) * 1000 ≤ b * k → natAbs (pos (k * m) *ℤ x -ℤ pos m *ℤ e) * 1000 ≤ b * (k * m)
-    scaled x e l = rw (out x e, abs-mul (pos m) (pos k *ℤ x -ℤ e)) (omega (arith, mul-le-mul-left m l))
-
--- ---- the same places of both
-pub close-pick : {b k : ℕ} {x e : List ℤ} (n : ℕ) (g : ℕ → ℕ) → Close b k x e → Close b k (pick n g x) (pick n g e)
-unfolding pick
-close-pick {b} {k} {x} {e} n g h = close-tab n b k (λ t. x ‼ g t) (λ t. e ‼ g t) (λ t. h .close (g t))
-
--- ---- differences
-pub close-minus : {b c k : ℕ} {x y e f : List ℤ} → Close b k x e → Close c k y f → Close (b + c) k (minus x y) (minus e f)
-unfolding minus
-close-minus {b} {c} {k} {x} {y} {e} {f} h g = rw (h .long)
-    (close-tab (length e) (b + c) k (λ t. (x ‼ t) -ℤ (y ‼ t)) (λ t. (e ‼ t) -ℤ (f ‼ t)) (λ t. both (x ‼ t) (y ‼ t) (e ‼ t) (f ‼ t) (h .close t) (g .close t)))
-  where
-    four : (x y e f : ℤ) → pos k *ℤ (x -ℤ y) -ℤ (e -ℤ f) ≡ (pos k *ℤ x -ℤ e) -ℤ (pos k *ℤ y -ℤ f)
-    four x y e f = rw (rep x, rep y, rep e, rep f) (simp ringℤ (omega arith))
-
-    both : (x y e f : ℤ) → natAbs (pos k *ℤ x -ℤ e) * 1000 ≤ b * k → natAbs (pos k *ℤ y -ℤ f) * 1000 ≤ c * k
-        → natAbs (pos k *ℤ (x -ℤ y) -ℤ (e -ℤ f)) * 1000 ≤ (b + c) * k
-    both x y e f h g = rw (four x y e f) (omega (arith, abs-sub (pos k *ℤ x -ℤ e) (pos k *ℤ y -ℤ f)))
+use Rattle.integers.proofs.RoundingLaws.{toGrain-near}
+use Rattle.integers.specs.Sums.{wsum, norm}
+use Rattle.integers.proofs.SumLaws.{wsum-near}
+use Rattle.series.specs.Distance.{Close}
+use Rattle.series.proofs.Distances.{close-tab}
+use Rattle.rows.specs.Table.{Table, rowWeight, denominator}
+use Rattle.rows.proofs.RowTests.{Fair}
+use Rattle.filters.specs.Filter.{earlier, later, rowAt, dot, weightedSum, valueAt, exactAt, filter, exact, reach, inside, exactInside}
+use Rattle.filters.proofs.Light.{Light}
 
 -- ---- one place of a filter. R is the rounded value of S / d, and E the exact sum
 regroup : (k d q : ℕ) (R S E : ℤ) → pos (k * (d * q)) *ℤ R -ℤ pos q *ℤ E ≡ pos q *ℤ (pos k *ℤ (pos d *ℤ R -ℤ S) +ℤ (pos k *ℤ S -ℤ E))
@@ -95,21 +39,25 @@ close-row k d q a N b c S E d0 hv ha hc = rw (regroup k d q (toGrain S d) S E) (
     (mul-le-mul-right 1000 (two-errors q k (pos d *ℤ toGrain S d -ℤ S) (pos k *ℤ S -ℤ E)))
     (bound k d q (natAbs (pos d *ℤ toGrain S d -ℤ S)) (natAbs (pos k *ℤ S -ℤ E)) a N b c (toGrain-near S d d0) hv ha hc))
 
--- ---- THE LAW: values within b thousandths give filtered values within c thousandths, where c is b times the rows' norm, and a half
-module _ {b k : ℕ} {x e : List ℤ} (F : Table) (L N c : ℕ) (ok : AllFair L N F) (enough : b * N + 500_000 ≤ 1000 * c) (h : Close b k x e) where
-  close-place : (n t : ℕ) → n ≡ length e → natAbs (pos (k * L) *ℤ toGrain (weighed F x t) (denominator F (rowAt F (length x) t)) -ℤ exactAt F L e t) * 1000 ≤ c * (k * L)
-  unfolding weighed exactAt dot
+-- ---- THE LAW: values within b thousandths, at whatever places, give weighted sums within c thousandths, where c is b times the weights' norm, and
+-- a half
+pub close-weighted : {b k : ℕ} {x e : List ℤ} (L N c : ℕ) (m : ℕ) (w : ℕ → ℤ) (p : ℕ → ℕ) (d : ℕ) → Fair L N d (norm m w) → b * N + 500_000 ≤ 1000 * c → Close b k x e
+    → natAbs (pos (k * L) *ℤ toGrain (wsum m w (λ j. x ‼ p j)) d -ℤ pos (L / d) *ℤ wsum m w (λ j. e ‼ p j)) * 1000 ≤ c * (k * L)
+close-weighted {b} {k} {x} {e} L N c m w p d f enough h =
+    let S = wsum m w (λ j. x ‼ p j) in
+    let E = wsum m w (λ j. e ‼ p j) in
+    subst (λ (l : ℕ). natAbs (pos (k * l) *ℤ toGrain S d -ℤ pos (L / d) *ℤ E) * 1000 ≤ c * (k * l)) (f .divides)
+    (close-row k d (L / d) (norm m w) N b c S E (f .positive) (wsum-near m k 1000 (b * k) w (λ j. x ‼ p j) (λ j. e ‼ p j) (λ j. h .close (p j))) (f .light) enough)
+
+-- ---- so does a filter, by the norm of its rows
+module _ {b k : ℕ} {x e : List ℤ} (F : Table) (L N c : ℕ) (ok : Light L N F) (enough : b * N + 500_000 ≤ 1000 * c) (h : Close b k x e) where
+  close-place : (n t : ℕ) → n ≡ length e
+      → natAbs (pos (k * L) *ℤ toGrain (weightedSum F x t) (denominator F (rowAt F (length x) t)) -ℤ exactAt F L e t) * 1000 ≤ c * (k * L)
+  unfolding weightedSum exactAt dot
   close-place n t i = rw (h .long)
-      (let m = before F t + 1 + after F (length e) t in
-      let r = rowAt F (length e) t in
-      let d = denominator F r in
-      let from = t - before F t * F .step in
-      let S = wsum m (weightAt F r) (λ j. x ‼ (from + j * F .step)) in
-      let E = wsum m (weightAt F r) (λ j. e ‼ (from + j * F .step)) in
-      let f = fair-place F L N (length e) t ok in
-      subst (λ (l : ℕ). natAbs (pos (k * l) *ℤ toGrain S d -ℤ pos (L / d) *ℤ E) * 1000 ≤ c * (k * l)) (f .divides)
-      (close-row k d (L / d) (norm m (weightAt F r)) N b c S E (f .positive)
-      (wsum-near m k 1000 (b * k) (weightAt F r) (λ j. x ‼ (from + j * F .step)) (λ j. e ‼ (from + j * F .step)) (λ j. h .close (from + j * F .step))) (f .light) enough))
+      (let r = rowAt F (length e) t in
+      close-weighted L N c (earlier F t + 1 + later F (length e) t) (rowWeight F r) (λ j. t - earlier F t * F .step + j * F .step) (denominator F r)
+      (ok .at (length e) t) enough h)
 
   close-at : (t : ℕ) → natAbs (pos (k * L) *ℤ valueAt F x t -ℤ exactAt F L e t) * 1000 ≤ c * (k * L)
   unfolding valueAt
@@ -125,15 +73,11 @@ module _ {b k : ℕ} {x e : List ℤ} (F : Table) (L N c : ℕ) (ok : AllFair L 
       (close-tab (length e - 2 * reach F) c (k * L) (λ i. valueAt F x (i + reach F)) (λ i. exactAt F L e (i + reach F)) (λ i. close-at (i + reach F)))
 
 -- ---- the exact value is the fraction: the weighted sum over the denominator is exactAt over L
-pub exact-means : (F : Table) (L N : ℕ) (x : List ℤ) (t : ℕ) → AllFair L N F → pos (denominator F (rowAt F (length x) t)) *ℤ exactAt F L x t ≡ pos L *ℤ weighed F x t
+pub exact-means : (F : Table) (L N : ℕ) (x : List ℤ) (t : ℕ) → Light L N F → pos (denominator F (rowAt F (length x) t)) *ℤ exactAt F L x t ≡ pos L *ℤ weightedSum F x t
 unfolding exactAt
 exact-means F L N x t ok =
-    scale (denominator F (rowAt F (length x) t)) (L / denominator F (rowAt F (length x) t)) (weighed F x t)
-    ∙ ap (λ (m : ℕ). pos m *ℤ weighed F x t) (fair-place F L N (length x) t ok .divides)
+    scale (denominator F (rowAt F (length x) t)) (L / denominator F (rowAt F (length x) t)) (weightedSum F x t)
+    ∙ ap (λ (m : ℕ). pos m *ℤ weightedSum F x t) (ok .at (length x) t .divides)
   where
     scale : (d q : ℕ) (z : ℤ) → pos d *ℤ (pos q *ℤ z) ≡ pos (d * q) *ℤ z
     scale d q z = rw (rep z) (simp ringℤ (omega arith))
-
--- ---- in grains
-pub grains : {b k : ℕ} {x e : List ℤ} (g : ℕ) → b ≤ 1000 * g → Close b k x e → Within g k x e
-grains {b} {k} g l h = record { within = λ t. omega (arith, h .close t, mul-le-mul-right k l) }

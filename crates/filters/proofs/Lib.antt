@@ -1,9 +1,10 @@
 -- Laws of the filters.
-pub mod Tests
+pub mod Light
 pub mod Distances
 pub mod Largest
-pub mod Rows
+pub mod Lengths
 pub mod Window
+pub mod Stretches
+pub mod Stored
 pub mod Sliding
 pub mod Book
-pub mod Lengths

@@ -5,15 +5,19 @@ use Prim.Native.Nat.{ℕ, suc, _+_, _*_, _-_, _≤_, _<_}
 use native.Mathlib.Omega.{arith}
 use lib.ListN.{length}
 use lib.IntN.{ℤ, pos, negsuc, negℤ, _+ℤ_, _-ℤ_, _*ℤ_}
-use Rattle.integers.specs.Differences.{rep, ringℤ}
+use Rattle.integers.proofs.Differences.{rep, ringℤ}
 use Rattle.integers.specs.Sizes.{_within_}
 use Rattle.integers.specs.Lists.{_‼_}
 use Rattle.integers.specs.Rounding.{toGrain}
-use Rattle.integers.specs.Sums.{sumZ, sumN, wsum, sum-same, wsum-within}
-use Rattle.filters.specs.Filter.{weightAt, denominator, dot, valueAt}
-use Rattle.filters.specs.Tables.{row2x12, table2x12}
-use Rattle.filters.specs.Asks.{largest, Filterable, sum2x12}
-use Rattle.filters.proofs.Window.{readable, middle-serves, value-is}
+use Rattle.integers.specs.Sums.{sumZ, sumN, wsum}
+use Rattle.integers.proofs.SumLaws.{sum-same, wsum-within}
+use Rattle.rows.specs.Table.{rowWeight, denominator}
+use Rattle.filters.specs.Filter.{dot, valueAt}
+use Rattle.rows.specs.MeanRows.{row2x12}
+use Rattle.rows.specs.FilterTables.{table2x12}
+use Rattle.filters.specs.Contracts.{largest, Filterable, sum2x12}
+use Rattle.filters.proofs.Window.{middle-serves, value-is}
+use Rattle.filters.proofs.Stored.{readable2x12}
 
 once : (z : ℤ) → pos 1 *ℤ z ≡ z
 once (pos b) = let e : 1 * b ≡ b = omega arith in ap pos e
@@ -57,9 +61,8 @@ sum-small x i s = wsum-within 13 (λ k. row2x12 ‼ (0 + k)) (λ k. x ‼ (i + k
 
 -- the filter's value with six on each side is that sum in 24ths
 pub value-2x12 : (x : List ℤ) (i : ℕ) {z : ℤ} → Filterable x → i + 12 < length x → z ≡ toGrain (sum2x12 x i) 24 → z ≡ valueAt table2x12 x (i + 6)
-unfolding sum2x12 dot table2x12 weightAt sumN denominator
+unfolding sum2x12 dot table2x12 rowWeight denominator
 value-2x12 x i s l e =
-    let h = readable table2x12 (tt, tt, tt, tt, tt, tt, tt, tt, tt, tt) in
     let from : i + 6 - 6 * 1 ≡ i = omega arith in
-    value-is table2x12 x (i + 6) 6 6 h s (middle-serves table2x12 (length x) h (omega arith) .each (i + 6) (omega arith) (omega arith)) 24
+    value-is table2x12 x (i + 6) 6 6 (record { readable = readable2x12; filterable = s }) (middle-serves table2x12 (length x) readable2x12 (omega arith) .each (i + 6) (omega arith) (omega arith)) 24
     (ap (λ (j : ℕ). dot 13 (λ k. row2x12 ‼ (0 + k)) x j 1) (sym from)) refl e

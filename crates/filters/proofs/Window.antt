@@ -8,27 +8,30 @@ use native.Mathlib.Omega.{arith}
 use lib.Dec.{T, leb, leb→le}
 use borrow.Author.Tests.{eq-eqb, ne-eqb}
 use lib.ListN.{length}
-use lib.IntN.{ℤ, pos}
-use Rattle.integers.specs.Sizes.{_within_, w≤}
+use lib.IntN.{ℤ}
+use Rattle.integers.specs.Sizes.{_within_}
+use Rattle.integers.proofs.SizeLaws.{w≤}
 use Rattle.integers.specs.Lists.{_‼_}
 use Rattle.integers.specs.Rounding.{toGrain}
-use Rattle.integers.specs.Filling.{Filled, filled-three}
-use Rattle.integers.specs.Sums.{norm, sumN-upto, wsum-within}
-use Rattle.filters.specs.Filter.{Table, weightAt, denominator, before, after, rowAt, dot, weighed, valueAt, filter}
-use Rattle.filters.specs.Asks.{largest, Dots, Filterable, Readable, Served, Serves, ServeInTurn}
-use Rattle.filters.proofs.Tests.{all, all-at}
+use Rattle.integers.specs.Sums.{norm}
+use Rattle.integers.proofs.SumLaws.{sumN-upto, wsum-within}
+use Rattle.integers.specs.Contracts.{largestNumerator}
+use Rattle.rows.specs.Table.{Table, rowWeight, denominator}
+use Rattle.rows.proofs.RowTests.{all, all-at}
+use Rattle.filters.specs.Filter.{earlier, later, rowAt, dot, weightedSum, valueAt}
+use Rattle.filters.specs.Contracts.{largest, largestNorm, largestOver, mostSide, mostStep, mostWidth, Dots, Readable, Filters, Served, Serves, ServeInTurn}
 
 -- b values precede place t of x, and a follow
-module _ (F : Table) (x : List ℤ) (t b a : ℕ) (h : Readable F) (s : Filterable x) (v : Served F (length x) b a t) where
-  eb : b ≡ min (t / F .step) (F .half)
-  unfolding before
+module _ (F : Table) (x : List ℤ) (t b a : ℕ) (fs : Filters F x) (v : Served F (length x) b a t) where
+  eb : b ≡ min (t / F .step) (F .side)
+  unfolding earlier
   eb = v .earlier-is
 
-  ea : a ≡ min ((length x - 1 - t) / F .step) (F .half)
-  unfolding after
+  ea : a ≡ min ((length x - 1 - t) / F .step) (F .side)
+  unfolding later
   ea = v .later-is
 
-  pub few : (b ≤ F .half) × (a ≤ F .half)
+  pub few : (b ≤ F .side) × (a ≤ F .side)
   few = omega (arith, eb, ea)
 
   pub starts : b * F .step ≤ t
@@ -40,120 +43,109 @@ module _ (F : Table) (x : List ℤ) (t b a : ℕ) (h : Readable F) (s : Filterab
   inside : (k : ℕ) → k < b + 1 + a → t - b * F .step + k * F .step < length x
   inside k l = let m : k ≤ b + a = omega arith in omega (arith, starts, ends, mul-le-mul-right (F .step) m, add-mul b a (F .step))
 
-  row-room : (b + (F .half - a)) * F .width + (b + 1 + a) ≤ length (F .rows)
-  row-room = let l : b + (F .half - a) ≤ 2 * F .half = omega (arith, few) in omega (arith, few, mul-le-mul-right (F .width) l, h .rows-long)
+  row-room : (b + (F .side - a)) * F .width + (b + 1 + a) ≤ length (F .rows)
+  row-room = let l : b + (F .side - a) ≤ 2 * F .side = omega (arith, few) in omega (arith, few, mul-le-mul-right (F .width) l, fs .readable .rows-long)
 
-  pub dots : Dots (F .rows) ((b + (F .half - a)) * F .width) (b + 1 + a) x (t - b * F .step) (F .step)
-  unfolding weightAt
+  pub dots : Dots (F .rows) ((b + (F .side - a)) * F .width) (b + 1 + a) x (t - b * F .step) (F .step)
+  unfolding rowWeight
   dots =
-      let r = b + (F .half - a) in
+      let r = b + (F .side - a) in
       let m = b + 1 + a in
-      record { room = row-room; light = le-trans (sumN-upto m (2 * F .half + 1) _ (omega (arith, few))) (h .light r (omega (arith, few))); places = inside; small = s .small }
+      record { room = row-room; light = le-trans (sumN-upto m (2 * F .side + 1) _ (omega (arith, few))) (fs .readable .light r (omega (arith, few))); places = inside; small = fs .filterable .small }
 
-  pub value-is : {sum z : ℤ} (d : ℕ) → sum ≡ dot (b + 1 + a) (λ k. F .rows ‼ ((b + (F .half - a)) * F .width + k)) x (t - b * F .step) (F .step)
-      → d ≡ denominator F (b + (F .half - a)) → z ≡ toGrain sum d → z ≡ valueAt F x t
-  unfolding valueAt weighed weightAt rowAt
+  pub value-is : {sum z : ℤ} (d : ℕ) → sum ≡ dot (b + 1 + a) (λ k. F .rows ‼ ((b + (F .side - a)) * F .width + k)) x (t - b * F .step) (F .step)
+      → d ≡ denominator F (b + (F .side - a)) → z ≡ toGrain sum d → z ≡ valueAt F x t
+  unfolding valueAt weightedSum rowWeight rowAt
   value-is {sum} d e f g = rw (← (v .earlier-is), ← (v .later-is)) (rw (← e, ← f) g)
 
-pub dot-within : {w : List ℤ} {at m : ℕ} {x : List ℤ} {from step : ℕ} → Dots w at m x from step → dot m (λ k. w ‼ (at + k)) x from step within 2305843009213693951
+pub dot-within : {w : List ℤ} {at m : ℕ} {x : List ℤ} {from step : ℕ} → Dots w at m x from step → dot m (λ k. w ‼ (at + k)) x from step within largestNumerator
 unfolding dot
 dot-within {w} {at} {m} {x} {from} {step} h =
     w≤ (wsum-within m (λ k. w ‼ (at + k)) (λ k. x ‼ (from + k * step)) largest (λ i l. h .small .at (from + i * step))) (omega (arith, h .light))
 
 -- the denominator of a row
-pub in-middle : (F : Table) (r : ℕ) → r ≡ F .half → F .middle ≡ denominator F r
+pub in-middle : (F : Table) (r : ℕ) → r ≡ F .side → F .middle ≡ denominator F r
 unfolding denominator
-in-middle F r e = rw (eq-eqb r (F .half) e)
+in-middle F r e = rw (eq-eqb r (F .side) e)
 
-pub at-ends : (F : Table) (r : ℕ) → (r ≡ F .half → ⊥) → F .ends ≡ denominator F r
+pub at-ends : (F : Table) (r : ℕ) → (r ≡ F .side → ⊥) → F .ends ≡ denominator F r
 unfolding denominator
-at-ends F r e = rw (ne-eqb r (F .half) e)
+at-ends F r e = rw (ne-eqb r (F .side) e)
 
 -- ---- which row serves a place
 -- of a distance d, b steps are whole, or more than a row takes
-count-is : (step half d b : ℕ) → 1 ≤ step → b ≤ half → b * step ≤ d → (b ≡ half) ⊎ (d < b * step + step) → b ≡ min (d / step) half
-count-is step half d b p l m c = let k : b ≤ d / step = le-div-iff-mul-le p .1 m in ⊎-elim
-    (λ (e : b ≡ half). omega (arith, k))
+count-is : (step side d b : ℕ) → 1 ≤ step → b ≤ side → b * step ≤ d → (b ≡ side) ⊎ (d < b * step + step) → b ≡ min (d / step) side
+count-is step side d b p l m c = let k : b ≤ d / step = le-div-iff-mul-le p .1 m in ⊎-elim
+    (λ (e : b ≡ side). omega (arith, k))
     (λ (q : d < b * step + step). let u : d / step < b + 1 = div-lt-iff-lt-mul p .1 (omega (arith, add-mul b 1 step)) in omega (arith, k, u)) c
 
-served : (F : Table) (n b a t : ℕ) → Readable F → t < n → b ≤ F .half → b * F .step ≤ t → (b ≡ F .half) ⊎ (t < b * F .step + F .step)
-    → a ≤ F .half → a * F .step ≤ n - 1 - t → (a ≡ F .half) ⊎ (n - 1 - t < a * F .step + F .step) → Served F n b a t
-unfolding before after
+served : (F : Table) (n b a t : ℕ) → Readable F → t < n → b ≤ F .side → b * F .step ≤ t → (b ≡ F .side) ⊎ (t < b * F .step + F .step)
+    → a ≤ F .side → a * F .step ≤ n - 1 - t → (a ≡ F .side) ⊎ (n - 1 - t < a * F .step + F .step) → Served F n b a t
+unfolding earlier later
 served F n b a t h l lb mb cb la ma ca = record {
   place = l;
-  earlier-is = count-is (F .step) (F .half) t b (h .step-least) lb mb cb;
-  later-is = count-is (F .step) (F .half) (n - 1 - t) a (h .step-least) la ma ca;
+  earlier-is = count-is (F .step) (F .side) t b (h .step-least) lb mb cb;
+  later-is = count-is (F .step) (F .side) (n - 1 - t) a (h .step-least) la ma ca;
 }
 
 -- a series that is long enough: the rows before the middle one serve its start, the middle one the inside, the others its end
-module _ (F : Table) (n : ℕ) (h : Readable F) (long : 2 * (F .half * F .step) ≤ n) where
-  pub middle-serves : Serves F n (F .half) (F .half) (F .half * F .step) (n - F .half * F .step)
+module _ (F : Table) (n : ℕ) (h : Readable F) (long : 2 * (F .side * F .step) ≤ n) where
+  pub middle-serves : Serves F n (F .side) (F .side) (F .side * F .step) (n - F .side * F .step)
   middle-serves = record {
     order = omega arith;
     inside = omega arith;
-    each = λ t l m. served F n (F .half) (F .half) t h (omega arith) (omega arith) l (inl refl) (omega arith) (omega arith) (inl refl);
+    each = λ t l m. served F n (F .side) (F .side) t h (omega arith) (omega arith) l (inl refl) (omega arith) (omega arith) (inl refl);
   }
 
   pub start-serves : ServeInTurn F n 0 0
   start-serves = record { rows = omega arith; inside = omega arith; each = each }
     where
-      each : (k : ℕ) → k < F .half → Serves F n (min (0 + k) (F .half)) (min (2 * F .half - (0 + k)) (F .half)) (0 + k * F .step) (0 + k * F .step + F .step)
+      each : (k : ℕ) → k < F .side → Serves F n (min (0 + k) (F .side)) (min (2 * F .side - (0 + k)) (F .side)) (0 + k * F .step) (0 + k * F .step + F .step)
       each k l =
-          let b : min (0 + k) (F .half) ≡ k = omega arith in
-          let a : min (2 * F .half - (0 + k)) (F .half) ≡ F .half = omega arith in
-          let m : k + 1 ≤ F .half = omega arith in
+          let b : min (0 + k) (F .side) ≡ k = omega arith in
+          let a : min (2 * F .side - (0 + k)) (F .side) ≡ F .side = omega arith in
+          let m : k + 1 ≤ F .side = omega arith in
           let f = mul-le-mul-right (F .step) m in
           let g = add-mul k 1 (F .step) in
           rw (b, a) (record {
             order = omega arith;
             inside = omega (arith, f, g);
-            each = λ t i j. served F n k (F .half) t h (omega (arith, f, g)) (omega arith) (omega arith) (inr (omega arith)) (omega arith) (omega (arith, f, g)) (inl refl);
+            each = λ t i j. served F n k (F .side) t h (omega (arith, f, g)) (omega arith) (omega arith) (inr (omega arith)) (omega arith) (omega (arith, f, g)) (inl refl);
           })
 
-  pub end-serves : ServeInTurn F n (F .half + 1) (n - F .half * F .step)
+  pub end-serves : ServeInTurn F n (F .side + 1) (n - F .side * F .step)
   end-serves = record { rows = omega arith; inside = omega arith; each = each }
     where
-      each : (k : ℕ) → k < F .half → Serves F n (min (F .half + 1 + k) (F .half)) (min (2 * F .half - (F .half + 1 + k)) (F .half)) (n - F .half * F .step + k * F .step) (n - F .half * F .step + k * F .step + F .step)
+      each : (k : ℕ) → k < F .side → Serves F n (min (F .side + 1 + k) (F .side)) (min (2 * F .side - (F .side + 1 + k)) (F .side)) (n - F .side * F .step + k * F .step) (n - F .side * F .step + k * F .step + F .step)
       each k l =
-          let j = F .half - 1 - k in
-          let b : min (F .half + 1 + k) (F .half) ≡ F .half = omega arith in
-          let a : min (2 * F .half - (F .half + 1 + k)) (F .half) ≡ j = omega arith in
-          let e : j + (k + 1) ≡ F .half = omega arith in
-          let f : F .half * F .step ≡ (j + (k + 1)) * F .step = rw e in
+          let j = F .side - 1 - k in
+          let b : min (F .side + 1 + k) (F .side) ≡ F .side = omega arith in
+          let a : min (2 * F .side - (F .side + 1 + k)) (F .side) ≡ j = omega arith in
+          let e : j + (k + 1) ≡ F .side = omega arith in
+          let f : F .side * F .step ≡ (j + (k + 1)) * F .step = rw e in
           let g = add-mul j (k + 1) (F .step) in
           let i = add-mul k 1 (F .step) in
           rw (b, a) (record {
             order = omega arith;
             inside = omega (arith, f, g, i);
-            each = λ t u v. served F n (F .half) j t h (omega (arith, f, g, i)) (omega arith) (omega (arith, f, g, i)) (inl refl) (omega arith) (omega (arith, f, g, i)) (inr (omega (arith, f, g, i)));
+            each = λ t u v. served F n (F .side) j t h (omega (arith, f, g, i)) (omega arith) (omega (arith, f, g, i)) (inl refl) (omega arith) (omega (arith, f, g, i)) (inr (omega (arith, f, g, i)));
           })
-
--- the start, the inside and the end, filled in turn, are the filter
-pub all-filled : (F : Table) (x : List ℤ) {old a b c : List ℤ} → 2 * (F .half * F .step) ≤ length x → length old ≡ length x
-    → Filled (pos 0) (valueAt F x) 0 (0 + F .half * F .step) old a → Filled (pos 0) (valueAt F x) (F .half * F .step) (length x - F .half * F .step) a b
-    → Filled (pos 0) (valueAt F x) (length x - F .half * F .step) (length x - F .half * F .step + F .half * F .step) b c → c ≡ filter F x
-unfolding filter
-all-filled F x long e start inside end =
-    let r = F .half * F .step in
-    let o : 0 + r ≡ r = omega arith in
-    let m : length x - r + r ≡ length x = omega arith in
-    filled-three (rw o at start) inside (rw m at end) (omega arith) (omega arith) e (λ k l. refl) (λ k l h. refl) (λ k l h. refl)
 
 -- what is asked of a table, as tests that are computed
 abbrev pub Asked : Table → Type 0
 Asked F =
-    T (leb (F .half) 15) × T (leb 1 (F .step)) × T (leb (F .step) 12) × T (leb (F .width) 31) × T (leb (2 * F .half * F .width + (2 * F .half + 1)) (length (F .rows)))
-    × T (all (2 * F .half + 1) (λ r. leb (norm (2 * F .half + 1) (weightAt F r)) 1_300_000))
-    × T (leb 1 (F .middle)) × T (leb 1 (F .ends)) × T (leb (F .middle) 1_000_000) × T (leb (F .ends) 1_000_000)
+    T (leb (F .side) mostSide) × T (leb 1 (F .step)) × T (leb (F .step) mostStep) × T (leb (F .width) mostWidth) × T (leb (2 * F .side * F .width + (2 * F .side + 1)) (length (F .rows)))
+    × T (all (2 * F .side + 1) (λ r. leb (norm (2 * F .side + 1) (rowWeight F r)) largestNorm))
+    × T (leb 1 (F .middle)) × T (leb 1 (F .ends)) × T (leb (F .middle) largestOver) × T (leb (F .ends) largestOver)
 
 pub readable : (F : Table) → Asked F → Readable F
 readable F q = record {
-  half-most = leb→le _ _ (q .0);
+  side-most = leb→le _ _ (q .0);
   step-least = leb→le _ _ (q .1);
   step-most = leb→le _ _ (q .2);
   width-most = leb→le _ _ (q .3);
   rows-long = leb→le _ _ (q .4);
-  light = λ r k. leb→le _ _ (all-at (2 * F .half + 1) (λ r. leb (norm (2 * F .half + 1) (weightAt F r)) 1_300_000) (q .5) r k);
+  light = λ r k. leb→le _ _ (all-at (2 * F .side + 1) (λ r. leb (norm (2 * F .side + 1) (rowWeight F r)) largestNorm) (q .5) r k);
   middle-least = leb→le _ _ (q .6);
   ends-least = leb→le _ _ (q .7);
   middle-most = leb→le _ _ (q .8);

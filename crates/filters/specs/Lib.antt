@@ -1,7 +1,3 @@
--- Document 01, "Filters": one filter for every table of rows, the tables, and where Henderson's rows come from.
+-- Document 01, "Filters": one filter for every table of rows. Contracts has what the code asks of its arguments.
 pub mod Filter
-pub mod Tables
-pub mod RowRules
-pub mod Henderson
-pub mod Distance
-pub mod Asks
+pub mod Contracts

@@ -2,66 +2,71 @@
 -- Assumes nothing.
 use Prim.Native.Nat.{_+_, _*_, _-_, _≤_}
 use native.Mathlib.Omega.{arith}
-use Rattle.integers.specs.Words.{i-call, i-within, kept}
-use Rattle.filters.specs.Filter.{Table}
-use Rattle.filters.specs.Asks.{table, Dots}
+use Rattle.integers.proofs.Signed64.{i-call, i-within, kept}
+use Rattle.rows.specs.Table.{Table}
+use Rattle.filters.specs.Contracts.{tableOf, Dots}
 use Rattle.filters.proofs.Window as window
 use Rattle.filters.proofs.by_row.Statement.{statement}
 use Rattle.filters.proofs.by_row.Tie as tie
 
 abbrev F : tie.Start → Table
-F s = table (s .args .half) (s .args .step) (s .args .width) (s .args .rows .now) (s .args .middle) (s .args .ends)
+F s = tableOf (s .args .f) (s .args .rows .now)
 
-the-dots : (s : tie.Start) → Dots (s .args .rows .now) ((s .args .earlier + (s .args .half - s .args .later)) * s .args .width) (s .args .earlier + 1 + s .args .later) (s .args .x .now) (s .args .t - s .args .earlier * s .args .step) (s .args .step)
-the-dots s = window.dots (F s) (s .args .x .now) (s .args .t) (s .args .earlier) (s .args .later) (s .pre .0) (s .pre .1) (s .pre .2)
+the-dots : (s : tie.Start) → Dots (s .args .rows .now) ((s .args .earlier + (s .args .f .side - s .args .later)) * s .args .f .width) (s .args .earlier + 1 + s .args .later)
+    (s .args .x .now) (s .args .t - s .args .earlier * s .args .f .step) (s .args .f .step)
+the-dots s = window.dots (F s) (s .args .x .now) (s .args .t) (s .args .earlier) (s .args .later) (s .pre .0) (s .pre .1)
 
-from : (s : tie.Start) → s .args .earlier * s .args .step ≤ s .args .t
-from s = window.starts (F s) (s .args .x .now) (s .args .t) (s .args .earlier) (s .args .later) (s .pre .0) (s .pre .1) (s .pre .2)
+from : (s : tie.Start) → s .args .earlier * s .args .f .step ≤ s .args .t
+from s = window.starts (F s) (s .args .x .now) (s .args .t) (s .args .earlier) (s .args .later) (s .pre .0) (s .pre .1)
 
-few : (s : tie.Start) → (s .args .earlier ≤ s .args .half) × (s .args .later ≤ s .args .half)
-few s = window.few (F s) (s .args .x .now) (s .args .t) (s .args .earlier) (s .args .later) (s .pre .0) (s .pre .1) (s .pre .2)
+few : (s : tie.Start) → (s .args .earlier ≤ s .args .f .side) × (s .args .later ≤ s .args .f .side)
+few s = window.few (F s) (s .args .x .now) (s .args .t) (s .args .earlier) (s .args .later) (s .pre .0) (s .pre .1)
+
+-- the start of the function, from where its shape was read
+abbrev start3 : tie.After-struct-known3 → tie.Start
+start3 c = c .before .before .before
 
 sub-row : tie.Need-sub-row
-sub-row c = few c .1
+sub-row c = few (c .before) .1
 
 add-row : tie.Need-add-row
-add-row c = omega (arith, few c, c .pre .0 .half-most)
+add-row c = omega (arith, few (c .before), c .before .pre .0 .readable .side-most)
+
+mul-first : tie.Need-mul-first
+mul-first c = omega (arith, from (c .before .before))
+
+sub-first : tie.Need-sub-first
+sub-first c = from (c .before .before)
 
 mul-dot : tie.Need-mul-dot
-mul-dot c = omega (arith, the-dots c .room)
+mul-dot c = omega (arith, the-dots (start3 c) .room)
 
 add-dot : tie.Need-add-dot
-add-dot c = omega (arith, few c, c .pre .0 .half-most)
+add-dot c = omega (arith, few (start3 c), start3 c .pre .0 .readable .side-most)
 
 add-dot-2 : tie.Need-add-dot-2
-add-dot-2 c = omega (arith, few c, c .pre .0 .half-most)
-
-mul-dot-2 : tie.Need-mul-dot-2
-mul-dot-2 c = omega (arith, from c)
-
-sub-dot : tie.Need-sub-dot
-sub-dot c = from c
+add-dot-2 c = omega (arith, few (start3 c), start3 c .pre .0 .readable .side-most)
 
 dot-requires : tie.Need-dot-requires
-dot-requires c κs = the-dots c
+dot-requires c κs = the-dots (start3 c)
 
-over-requires : tie.Need-over-requires
-over-requires c κs = let p = c .before in let s = p .before in
-    (i-within (i-call (p .dot .ok) (p .dot .ensures) (window.dot-within (the-dots s))), s .pre .0 .middle-least, s .pre .0 .middle-most)
+rounded-requires : tie.Need-rounded-requires
+rounded-requires c κs = let p = c .before .before in let s = start3 (p .before) in
+    (i-within (i-call (p .dot .ok) (p .dot .ensures) (window.dot-within (the-dots s))), s .pre .0 .readable .middle-least, s .pre .0 .readable .middle-most)
 
-over-requires-2 : tie.Need-over-requires-2
-over-requires-2 c κs = let p = c .before in let s = p .before in
-    (i-within (i-call (p .dot .ok) (p .dot .ensures) (window.dot-within (the-dots s))), s .pre .0 .ends-least, s .pre .0 .ends-most)
+rounded-requires-2 : tie.Need-rounded-requires-2
+rounded-requires-2 c κs = let p = c .before .before in let s = start3 (p .before) in
+    (i-within (i-call (p .dot .ok) (p .dot .ensures) (window.dot-within (the-dots s))), s .pre .0 .readable .ends-least, s .pre .0 .readable .ends-most)
 
 returns : tie.Need-returns
-returns c = let i = c .before in let p = i .before in let s = p .before in
-    window.value-is (F s) (s .args .x .now) (s .args .t) (s .args .earlier) (s .args .later) (s .pre .0) (s .pre .1) (s .pre .2)
-    (s .args .middle) (kept (p .dot .ok) (p .dot .ensures)) (window.in-middle (F s) _ (i .if1 .taken)) (kept (c .over .ok) (c .over .ensures))
+returns c = let i = c .before in let p = i .before .before in let s = start3 (p .before) in
+    window.value-is (F s) (s .args .x .now) (s .args .t) (s .args .earlier) (s .args .later) (s .pre .0) (s .pre .1)
+    (s .args .f .middle) (kept (p .dot .ok) (p .dot .ensures)) (window.in-middle (F s) _ (i .if1 .taken)) (kept (c .rounded .ok) (c .rounded .ensures))
 
 returns-2 : tie.Need-returns-2
-returns-2 c = let i = c .before in let p = i .before in let s = p .before in
-    window.value-is (F s) (s .args .x .now) (s .args .t) (s .args .earlier) (s .args .later) (s .pre .0) (s .pre .1) (s .pre .2)
-    (s .args .ends) (kept (p .dot .ok) (p .dot .ensures)) (window.at-ends (F s) _ (i .if1 .left)) (kept (c .over2 .ok) (c .over2 .ensures))
+returns-2 c = let i = c .before in let p = i .before .before in let s = start3 (p .before) in
+    window.value-is (F s) (s .args .x .now) (s .args .t) (s .args .earlier) (s .args .later) (s .pre .0) (s .pre .1)
+    (s .args .f .ends) (kept (p .dot .ok) (p .dot .ensures)) (window.at-ends (F s) _ (i .if1 .left)) (kept (c .rounded2 .ok) (c .rounded2 .ensures))
 
 pub by-row-spec : {M : Type 1} → statement M
 by-row-spec =
@@ -69,13 +74,13 @@ by-row-spec =
     (tie.spec
     sub-row
     add-row
+    mul-first
+    sub-first
     mul-dot
     add-dot
     add-dot-2
-    mul-dot-2
-    sub-dot
     dot-requires
-    over-requires
-    over-requires-2
+    rounded-requires
+    rounded-requires-2
     returns
     returns-2)

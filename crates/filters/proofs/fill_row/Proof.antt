@@ -4,27 +4,28 @@ use Prim.Native.Nat.{_≤_, _-_}
 use mathlib.Core.Path.{_≡_}
 use native.Mathlib.Omega.{arith}
 use lib.IntN.{pos}
-use Rattle.integers.specs.Words.{kept}
-use Rattle.integers.specs.Filling.{Filled, filled-none, filled-more}
+use Rattle.integers.proofs.Signed64.{kept}
+use Rattle.integers.specs.Filling.{Filled}
+use Rattle.integers.proofs.FillingLaws.{filled-none, filled-more}
 use Rattle.filters.specs.Filter.{valueAt}
-use Rattle.filters.specs.Asks.{table}
+use Rattle.filters.specs.Contracts.{tableOf}
 use Rattle.filters.proofs.fill_row.Statement.{statement}
 use Rattle.filters.proofs.fill_row.Tie as tie
 
 abbrev Inv-loop : tie.InvT-loop
-Inv-loop half step width rows middle ends x earlier later lo hi out₀ t₀ out t = (lo ≤ t) × (t ≤ hi) × Filled (pos 0) (valueAt (table half step width rows middle ends) x) lo t out₀ out
+Inv-loop f rows x earlier later lo hi out₀ t₀ out t = (lo ≤ t) × (t ≤ hi) × Filled (pos 0) (valueAt (tableOf f rows) x) lo t out₀ out
 
 abbrev μ-loop : tie.MeasureT-loop
-μ-loop half step width rows middle ends x earlier later lo hi out₀ t₀ out t = hi - t
+μ-loop f rows x earlier later lo hi out₀ t₀ out t = hi - t
 
 loop-holds : tie.Need-loop-holds Inv-loop μ-loop
-loop-holds c = (omega arith, c .pre .2 .order, filled-none)
+loop-holds c = (omega arith, c .pre .1 .order, filled-none)
 
 by-row-requires : tie.Need-by-row-requires Inv-loop μ-loop
-by-row-requires c κs = let l = c .before in let s = l .before in (s .pre .0, s .pre .1, s .pre .2 .each (l .loop .t) (omega arith) (omega arith))
+by-row-requires c κs = let l = c .before in let s = l .before in (s .pre .0, s .pre .1 .each (l .loop .t) (omega arith) (omega arith))
 
-mul-t16 : tie.Need-mul-t16 Inv-loop μ-loop
-mul-t16 c = omega arith
+mul-t12 : tie.Need-mul-t12 Inv-loop μ-loop
+mul-t12 c = omega arith
 
 slice-set-from-out : tie.Need-slice-set-from-out Inv-loop μ-loop
 slice-set-from-out c = omega arith
@@ -52,7 +53,7 @@ fill-row-spec =
     μ-loop
     loop-holds
     by-row-requires
-    mul-t16
+    mul-t12
     slice-set-from-out
     add-t
     loop-less

@@ -8,8 +8,8 @@ use mir.Val.{toZ, ofZ}
 use borrow.Author.Needs.{needs}
 use Rattle.integers.specs.Sizes.{_within_}
 use Rattle.integers.specs.Lists.{_‼_}
-use Rattle.integers.specs.Words.{Reads, i+, i-, i-fits, i-kept, i-in, i≡}
-use Rattle.filters.specs.Asks.{largest, sum2x12}
+use Rattle.integers.proofs.Signed64.{Reads, i+, i-, i-fits, i-kept, i-in, i≡}
+use Rattle.filters.specs.Contracts.{largest, sum2x12}
 use Rattle.filters.proofs.Sliding.{next-is, sum-small}
 use Rattle.filters.proofs.next_sum.Statement.{statement}
 use Rattle.filters.proofs.next_sum.Tie as tie

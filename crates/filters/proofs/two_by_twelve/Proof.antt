@@ -9,14 +9,17 @@ use lib.ListN.{length, set, length-set}
 use lib.IntN.{ℤ, pos}
 use mir.Syntax.{w64}
 use mir.Val.{toZ, ofZ}
-use Rattle.integers.specs.Sizes.{_within_, w≤}
+use Rattle.integers.specs.Sizes.{_within_}
+use Rattle.integers.proofs.SizeLaws.{w≤}
 use Rattle.integers.specs.Rounding.{toGrain}
+use Rattle.integers.specs.Contracts.{largestNumerator}
 use Rattle.integers.specs.Sums.{sumN}
-use Rattle.integers.specs.Words.{kept}
-use Rattle.integers.specs.Filling.{Filled, filled-none, filled-more, filled-on, filled-tab}
+use Rattle.integers.proofs.Signed64.{kept}
+use Rattle.integers.specs.Filling.{Filled}
+use Rattle.integers.proofs.FillingLaws.{filled-none, filled-more, filled-on, filled-tab}
 use Rattle.filters.specs.Filter.{valueAt, reach, inside}
-use Rattle.filters.specs.Tables.{table2x12}
-use Rattle.filters.specs.Asks.{sum2x12, Filterable}
+use Rattle.rows.specs.FilterTables.{table2x12}
+use Rattle.filters.specs.Contracts.{sum2x12, Filterable}
 use Rattle.filters.proofs.Sliding.{sum-small, value-2x12}
 use Rattle.filters.proofs.two_by_twelve.Statement.{statement}
 use Rattle.filters.proofs.two_by_twelve.Tie as tie
@@ -29,8 +32,8 @@ abbrev μ-loop : tie.MeasureT-loop
 μ-loop x out₀ sum₀ i₀ i-end out sum i = i-end - i
 
 -- a sum may be put over 24
-small : {z : ℤ} (x : List ℤ) (i : ℕ) → Filterable x → z ≡ sum2x12 x i → z within 2305843009213693951
-small x i s e = subst⁻¹ (λ (y : ℤ). y within 2305843009213693951) e (w≤ (sum-small x i s) (omega arith))
+small : {z : ℤ} (x : List ℤ) (i : ℕ) → Filterable x → z ≡ sum2x12 x i → z within largestNumerator
+small x i s e = subst⁻¹ (λ (y : ℤ). y within largestNumerator) e (w≤ (sum-small x i s) (omega arith))
 
 slice-aggregate-dot : tie.Need-slice-aggregate-dot Inv-loop μ-loop
 slice-aggregate-dot c = refl
@@ -43,18 +46,18 @@ first : (c : tie.After-dot Inv-loop μ-loop) → toZ w64 (ofZ w64 (c .dot .resul
 unfolding sum2x12
 first c = kept (c .dot .ok) (c .dot .ensures)
 
-over-requires : tie.Need-over-requires Inv-loop μ-loop
-over-requires c κs = let s = c .before .before in (small (s .args .x .now) 0 (s .pre .0) (first c), omega arith, omega arith)
+rounded-requires : tie.Need-rounded-requires Inv-loop μ-loop
+rounded-requires c κs = let s = c .before .before in (small (s .args .x .now) 0 (s .pre .0) (first c), omega arith, omega arith)
 
 slice-set-from-out : tie.Need-slice-set-from-out Inv-loop μ-loop
 slice-set-from-out c = let s = c .before .before .before in omega (arith, s .pre)
 
 -- the slice with its first entry set
-abbrev front : tie.After-over Inv-loop μ-loop → List ℤ
-front c = set (c .before .before .before .args .out .now) 0 (toZ w64 (ofZ w64 (c .over .result)))
+abbrev front : tie.After-rounded Inv-loop μ-loop → List ℤ
+front c = set (c .before .before .before .args .out .now) 0 (toZ w64 (ofZ w64 (c .rounded .result)))
 
-as-long : (c : tie.After-over Inv-loop μ-loop) → length (front c) ≡ length (c .before .before .before .args .out .now)
-as-long c = length-set (c .before .before .before .args .out .now) 0 (toZ w64 (ofZ w64 (c .over .result)))
+as-long : (c : tie.After-rounded Inv-loop μ-loop) → length (front c) ≡ length (c .before .before .before .args .out .now)
+as-long c = length-set (c .before .before .before .args .out .now) 0 (toZ w64 (ofZ w64 (c .rounded .result)))
 
 loop-holds : tie.Need-loop-holds Inv-loop μ-loop
 loop-holds c = let s = c .before .before .before in (omega arith, omega (arith, as-long c, s .pre), omega (arith, as-long c, s .pre), filled-none, first (c .before))
@@ -65,8 +68,8 @@ next-sum-requires c κs = let l = c .before in let s = l .before .before .before
 next : (c : tie.After-next-sum Inv-loop μ-loop) → let l = c .before .before in toZ w64 (ofZ w64 (c .next-sum .result)) ≡ sum2x12 (l .before .before .before .before .args .x .now) (l .loop .i)
 next c = kept (c .next-sum .ok) (c .next-sum .ensures)
 
-over-requires-2 : tie.Need-over-requires-2 Inv-loop μ-loop
-over-requires-2 c κs = let l = c .before .before in let s = l .before .before .before .before in (small (s .args .x .now) (l .loop .i) (s .pre .0) (next c), omega arith, omega arith)
+rounded-requires-2 : tie.Need-rounded-requires-2 Inv-loop μ-loop
+rounded-requires-2 c κs = let l = c .before .before in let s = l .before .before .before .before in (small (s .args .x .now) (l .loop .i) (s .pre .0) (next c), omega arith, omega arith)
 
 mul-t13 : tie.Need-mul-t13 Inv-loop μ-loop
 mul-t13 c = let i = c .before .before in let s = i .before .before .before .before .before in omega (arith, i .before .loop .inv, i .loop-test, s .pre .0 .short)
@@ -87,7 +90,7 @@ loop-again c = let i = c .before .before in let l = i .before in let s = l .befo
       omega (arith, l .loop .inv),
       omega (arith, i .loop-test),
       l .loop .inv .2,
-      filled-more (l .loop .inv .3) (l .loop .inv .0) (omega (arith, i .loop-test, l .loop .inv .3 .long)) (value-2x12 x (l .loop .i) (s .pre .0) m (kept (c .over2 .ok) (c .over2 .ensures) ∙ ap (λ (z : ℤ). toGrain z 24) (next (c .before)))),
+      filled-more (l .loop .inv .3) (l .loop .inv .0) (omega (arith, i .loop-test, l .loop .inv .3 .long)) (value-2x12 x (l .loop .i) (s .pre .0) m (kept (c .rounded2 .ok) (c .rounded2 .ensures) ∙ ap (λ (z : ℤ). toGrain z 24) (next (c .before)))),
       rw e (next (c .before)),
     )
 
@@ -97,7 +100,7 @@ same-length c = let l = c .before in l .loop .inv .3 .long ∙ as-long (l .befor
 returns : tie.Need-returns Inv-loop μ-loop
 unfolding inside reach table2x12
 returns c = let l = c .before in let o = l .before in let s = o .before .before .before in let x = s .args .x .now in
-    let f : Filled (pos 0) (λ k. valueAt table2x12 x (k + 6)) 0 1 (s .args .out .now) (front o) = filled-more {t = 0} filled-none (omega arith) (omega (arith, s .pre)) (value-2x12 x 0 (s .pre .0) (omega (arith, s .pre)) (kept (o .over .ok) (o .over .ensures) ∙ ap (λ (z : ℤ). toGrain z 24) (first (o .before)))) in
+    let f : Filled (pos 0) (λ k. valueAt table2x12 x (k + 6)) 0 1 (s .args .out .now) (front o) = filled-more {t = 0} filled-none (omega arith) (omega (arith, s .pre)) (value-2x12 x 0 (s .pre .0) (omega (arith, s .pre)) (kept (o .rounded .ok) (o .rounded .ensures) ∙ ap (λ (z : ℤ). toGrain z 24) (first (o .before)))) in
     filled-tab (filled-on f (l .loop .inv .3) (omega arith) (l .loop .inv .0) (λ k i m. refl)) (omega (arith, l .loop .inv, as-long o, s .pre)) (omega (arith, s .pre))
 
 pub two-by-twelve-spec : {M : Type 1} → statement M
@@ -108,11 +111,11 @@ two-by-twelve-spec =
     μ-loop
     slice-aggregate-dot
     dot-requires
-    over-requires
+    rounded-requires
     slice-set-from-out
     loop-holds
     next-sum-requires
-    over-requires-2
+    rounded-requires-2
     mul-t13
     slice-set-from-out-2
     add-i

@@ -1,9 +1,9 @@
--- `filters::minus_at` meets its contract: both numbers are small enough for their difference to fit.
+-- `series::minus_at` meets its contract: both numbers are small enough for their difference to fit.
 -- Assumes nothing.
 use borrow.Author.Needs.{needs}
-use Rattle.integers.specs.Words.{i-, i-fits, i-kept, i-in}
-use Rattle.filters.proofs.minus_at.Statement.{statement}
-use Rattle.filters.proofs.minus_at.Tie as tie
+use Rattle.integers.proofs.Signed64.{i-, i-fits, i-kept, i-in}
+use Rattle.series.proofs.minus_at.Statement.{statement}
+use Rattle.series.proofs.minus_at.Tie as tie
 
 mul-result : tie.Need-mul-result
 mul-result c = search needs

@@ -9,21 +9,21 @@ use lib.IntN.{ℤ, pos, _+ℤ_, _-ℤ_, _*ℤ_}
 use Rattle.integers.specs.Lists.{_‼_, tab}
 use Rattle.integers.specs.Rounding.{awayFromZero}
 use Rattle.integers.specs.Sums.{sumZ}
-use Rattle.filters.specs.Filter.{times}
-use Rattle.filters.specs.Tables.{rowsHenderson}
+use Rattle.series.specs.Operations.{times}
+use Rattle.rows.specs.HendersonRows.{rowsHenderson}
 
 -- ---- the closed formula. n is two more than the terms on one side; n² - 1 stands for the printed (n - 1)² of the denominator.
--- The weight i places from the centre is closedOver n i over closedUnder n
-unfoldable pub closedUnder : ℕ → ℕ
-closedUnder n = 8 * n * (n * n - 1) * (4 * n * n - 1) * (4 * n * n - 9) * (4 * n * n - 25)
+-- The weight i places from the centre is closedNumerator n i over closedDenominator n
+unfoldable pub closedDenominator : ℕ → ℕ
+closedDenominator n = 8 * n * (n * n - 1) * (4 * n * n - 1) * (4 * n * n - 9) * (4 * n * n - 25)
 
-unfoldable pub closedOver : ℕ → ℕ → ℤ
-closedOver n i =
+unfoldable pub closedNumerator : ℕ → ℕ → ℤ
+closedNumerator n i =
     pos (315 * ((n - 1) * (n - 1) - i * i) * (n * n - i * i) * ((n + 1) * (n + 1) - i * i)) *ℤ (pos (3 * n * n) -ℤ pos (16 + 11 * i * i))
 
 -- all 2p + 1 of them, oldest first: place j is p - j or j - p places from the centre
 unfoldable pub closedRow : ℕ → List ℤ
-closedRow p = tab (2 * p + 1) (λ j. closedOver (p + 2) ((p - j) + (j - p)))
+closedRow p = tab (2 * p + 1) (λ j. closedNumerator (p + 2) ((p - j) + (j - p)))
 
 -- ---- Musgrave's weights for M values, from 2p + 1 symmetric weights w over W, with D = P / R.
 -- Places count from 0, so that the formula's j is j + 1 here and its j - (M + 1) / 2 is half of `offset j`
@@ -39,43 +39,43 @@ module _ (p W P R : ℕ) (w : List ℤ) (M : ℕ) where
   tilt = sumZ (2 * p + 1 - M) (λ i. offset (M + i) *ℤ (w ‼ (M + i)))
 
   -- D / (1 + (M (M - 1) (M + 1) / 12) D) is 12 P over this
-  abbrev under : ℕ
-  under = 12 * R + M * (M - 1) * (M + 1) * P
+  abbrev divisor : ℕ
+  divisor = 12 * R + M * (M - 1) * (M + 1) * P
 
-  -- w j + missing / M + offset j * 3 P * tilt / under, all over W: as a whole number over W M under
-  abbrev musgraveOver : ℕ → ℤ
-  musgraveOver j = pos (M * under) *ℤ (w ‼ j) +ℤ pos under *ℤ missing +ℤ pos (3 * M * P) *ℤ (offset j *ℤ tilt)
+  -- w j + missing / M + offset j * 3 P * tilt / divisor, all over W: as a whole number over W M divisor
+  abbrev musgraveNumerator : ℕ → ℤ
+  musgraveNumerator j = pos (M * divisor) *ℤ (w ‼ j) +ℤ pos divisor *ℤ missing +ℤ pos (3 * M * P) *ℤ (offset j *ℤ tilt)
 
   -- rounded to the nearest millionth, a half away from zero
   abbrev millionths : ℕ → ℤ
-  millionths j = awayFromZero (pos 1_000_000 *ℤ musgraveOver j) (W * M * under)
+  millionths j = awayFromZero (pos 1_000_000 *ℤ musgraveNumerator j) (W * M * divisor)
 
   -- the present month, p places from the oldest, is 1,000,000 less the others
   unfoldable pub endWeight : ℕ → ℤ
   endWeight j = cond (eqb j p) (pos 1_000_000 -ℤ sumZ M (λ i. cond (eqb i p) (pos 0) (millionths i))) (millionths j)
 
 -- ---- the whole table. Weight k of row r: rows after the middle one have fewer values after them; rows before it are those, mirrored
-unfoldable pub tableAt : ℕ → ℕ → ℕ → ℕ → List ℤ → ℕ → ℕ → ℤ
-tableAt p W P R w r k =
+unfoldable pub weightByRule : ℕ → ℕ → ℕ → ℕ → List ℤ → ℕ → ℕ → ℤ
+weightByRule p W P R w r k =
     cond (ltb r p) (cond (ltb (p + r) k) (pos 0) (endWeight p W P R w (p + 1 + r) (p + r - k)))
     (cond (ltb p r) (cond (ltb (3 * p - r) k) (pos 0) (endWeight p W P R w (3 * p + 1 - r) k)) (w ‼ k))
 
-unfoldable pub hendersonRows : ℕ → ℕ → ℕ → ℕ → List ℤ → List ℤ
-hendersonRows p W P R w = tab ((2 * p + 1) * (2 * p + 1)) (λ i. tableAt p W P R w (i / (2 * p + 1)) (i % (2 * p + 1)))
+unfoldable pub rowsByRule : ℕ → ℕ → ℕ → ℕ → List ℤ → List ℤ
+rowsByRule p W P R w = tab ((2 * p + 1) * (2 * p + 1)) (λ i. weightByRule p W P R w (i / (2 * p + 1)) (i % (2 * p + 1)))
 
--- ---- the stored rows (shown in proofs/Rows.antt). The middle row, over 16,796, is the seventh
+-- ---- the stored rows (shown in proofs/Rules.antt). The middle row, over 16,796, is the seventh
 abbrev pub middleRow : List ℤ
 middleRow = take 13 (drop (6 * 13) rowsHenderson)
 
 -- D is 1039/10000
-abbrev pub dOver : ℕ
-dOver = 1039
+abbrev pub dNumerator : ℕ
+dNumerator = 1039
 
-abbrev pub dUnder : ℕ
-dUnder = 10_000
+abbrev pub dDenominator : ℕ
+dDenominator = 10_000
 
 pub record HendersonRule : Type 0 where
   -- the symmetric weights follow from the closed formula, with six terms on one side: n is 8
-  pub closed-formula : times (closedUnder 8) middleRow ≡ times 16_796 (closedRow 6)
+  pub closed-formula : times (closedDenominator 8) middleRow ≡ times 16_796 (closedRow 6)
   -- each stored row obeys Musgrave's rule, the table as a whole
-  pub musgrave : rowsHenderson ≡ hendersonRows 6 16_796 dOver dUnder middleRow
+  pub musgrave : rowsHenderson ≡ rowsByRule 6 16_796 dNumerator dDenominator middleRow

@@ -1,13 +1,14 @@
--- `filters::zero` meets its contract: each entry below i is 0.
+-- `series::zero` meets its contract: each entry below i is 0.
 -- Assumes nothing.
 use Prim.Native.Nat.{_≤_, _-_}
-use Rattle.integers.specs.Filling.{Filled, filled-none, filled-more, filled-tab}
+use Rattle.integers.specs.Filling.{Filled}
+use Rattle.integers.proofs.FillingLaws.{filled-none, filled-more, filled-tab}
 use lib.IntN.{pos}
 use lib.ListN.{length}
 use mathlib.Core.Path.{_≡_, refl}
 use native.Mathlib.Omega.{arith}
-use Rattle.filters.proofs.zero.Statement.{statement}
-use Rattle.filters.proofs.zero.Tie as tie
+use Rattle.series.proofs.zero.Statement.{statement}
+use Rattle.series.proofs.zero.Tie as tie
 
 abbrev Inv-loop : tie.InvT-loop
 Inv-loop s₀ i₀ i-end s i = (i ≤ i-end) × (i-end ≡ length s₀) × Filled (pos 0) (λ _. pos 0) 0 i s₀ s

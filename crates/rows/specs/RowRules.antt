@@ -1,4 +1,4 @@
--- Document 01, "Filters": what the stored rows obey, whole tables at a time (shown in proofs/Rows.antt).
+-- Document 01, "Filters": what the stored rows obey, whole tables at a time (shown in proofs/Rules.antt).
 use mathlib.Core.Path.{_≡_}
 use mathlib.Core.Bool.{cond}
 use mathlib.Core.List.{List, [], _∷_}
@@ -8,30 +8,32 @@ use lib.ListN.{length}
 use lib.IntN.{ℤ, pos}
 use Rattle.integers.specs.Lists.{tab}
 use Rattle.integers.specs.Sums.{sumZ}
-use Rattle.filters.specs.Filter.{Table, weightAt, denominator}
-use Rattle.filters.specs.Tables.{rows3x3, rows3x5, rowsHenderson, table2x12, table3x3, table3x5, tableHenderson}
+use Rattle.rows.specs.Table.{Table, rowWeight, denominator}
+use Rattle.rows.specs.MeanRows.{rows3x3, rows3x5}
+use Rattle.rows.specs.HendersonRows.{rowsHenderson}
+use Rattle.rows.specs.FilterTables.{table2x12, table3x3, table3x5, tableHenderson}
 
 -- how many values row r takes
-abbrev pub long : Table → ℕ → ℕ
-long F r = F .half + 1 + min r (2 * F .half - r)
+abbrev pub taken : Table → ℕ → ℕ
+taken F r = F .side + 1 + min r (2 * F .side - r)
 
 -- the sum of each row, and its denominator
 abbrev pub sums : Table → List ℤ
-sums F = tab (2 * F .half + 1) (λ r. sumZ (long F r) (weightAt F r))
+sums F = tab (2 * F .side + 1) (λ r. sumZ (taken F r) (rowWeight F r))
 
 abbrev pub denominators : Table → List ℤ
-denominators F = tab (2 * F .half + 1) (λ r. pos (denominator F r))
+denominators F = tab (2 * F .side + 1) (λ r. pos (denominator F r))
 
 -- all rows, each read backwards from the row for the other side
 abbrev pub mirrored : Table → List ℤ
 mirrored F = tab (length (F .rows)) (λ i.
     let r = i / F .width in
     let k = i % F .width in
-    cond (ltb k (long F r)) (weightAt F (2 * F .half - r) (long F r - 1 - k)) (pos 0))
+    cond (ltb k (taken F r)) (rowWeight F (2 * F .side - r) (taken F r - 1 - k)) (pos 0))
 
 pub record RowRules : Type 0 where
-  -- each row sums to its denominator; 2×12 has its middle row alone
-  pub row-sums : (sums table3x3 ∷ sums table3x5 ∷ sums tableHenderson ∷ tab 1 (λ r. sumZ 13 (weightAt table2x12 6)) ∷ [])
+  -- each row sums to its denominator; 2×12 has its middle row alone, which is row 6 of 13
+  pub row-sums : (sums table3x3 ∷ sums table3x5 ∷ sums tableHenderson ∷ tab 1 (λ r. sumZ 13 (rowWeight table2x12 6)) ∷ [])
       ≡ (denominators table3x3 ∷ denominators table3x5 ∷ denominators tableHenderson ∷ tab 1 (λ r. pos 24) ∷ [])
   -- the rows before the middle one are those after it, mirrored
   pub mirrors : (mirrored table3x3 ∷ mirrored table3x5 ∷ mirrored tableHenderson ∷ []) ≡ (rows3x3 ∷ rows3x5 ∷ rowsHenderson ∷ [])

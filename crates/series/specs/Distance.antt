@@ -10,11 +10,11 @@ use Rattle.integers.specs.Lists.{_‼_}
 abbrev pub Apart : ℕ → ℕ → ℤ → ℤ → Type 0
 Apart g k d e = natAbs (pos k *ℤ d -ℤ e) ≤ g * k
 
--- the same in thousandths of a grain, of series: each x(t) is within b thousandths of the fraction e(t) / k; past the end both are 0
+-- of series: at every place; past the end both are 0
+pub record AllApart (g k : ℕ) (x e : List ℤ) : Type 0 where
+  pub at : (t : ℕ) → Apart g k (x ‼ t) (e ‼ t)
+
+-- the same in thousandths of a grain, of series that are as long: what the laws carry from step to step
 pub record Close (b k : ℕ) (x e : List ℤ) : Type 0 where
   pub long : length x ≡ length e
   pub close : (t : ℕ) → natAbs (pos k *ℤ (x ‼ t) -ℤ (e ‼ t)) * 1000 ≤ b * k
-
--- each x(t) is within g grains of the fraction e(t) / k
-pub record Within (g k : ℕ) (x e : List ℤ) : Type 0 where
-  pub within : (t : ℕ) → Apart g k (x ‼ t) (e ‼ t)

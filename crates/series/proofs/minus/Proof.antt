@@ -1,16 +1,17 @@
--- `filters::minus` meets its contract: each entry below t is the difference there.
+-- `series::minus` meets its contract: each entry below t is the difference there.
 -- Assumes nothing.
 use Prim.Native.Nat.{_≤_, _-_}
-use Rattle.filters.specs.Filter.{minus}
-use Rattle.integers.specs.Filling.{Filled, filled-none, filled-more, filled-tab}
+use Rattle.series.specs.Operations.{minus}
+use Rattle.integers.specs.Filling.{Filled}
+use Rattle.integers.proofs.FillingLaws.{filled-none, filled-more, filled-tab}
 use Rattle.integers.specs.Lists.{_‼_}
-use Rattle.integers.specs.Words.{kept}
+use Rattle.integers.proofs.Signed64.{kept}
 use lib.IntN.{_-ℤ_, pos}
 use lib.ListN.{length}
 use mathlib.Core.Path.{_≡_}
 use native.Mathlib.Omega.{arith}
-use Rattle.filters.proofs.minus.Statement.{statement}
-use Rattle.filters.proofs.minus.Tie as tie
+use Rattle.series.proofs.minus.Statement.{statement}
+use Rattle.series.proofs.minus.Tie as tie
 
 abbrev Inv-loop : tie.InvT-loop
 Inv-loop x y out₀ t₀ t-end out t = (t ≤ t-end) × (t-end ≡ length x) × Filled (pos 0) (λ k. (x ‼ k) -ℤ (y ‼ k)) 0 t out₀ out

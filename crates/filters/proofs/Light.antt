@@ -1,0 +1,52 @@
+-- What the laws of a filter ask of its rows: at each place the row's denominator divides L, and the sizes of its weights sum to at most N
+-- thousandths of it.
+use Prim.Native.Nat.{ℕ, _+_, _*_, _<_, _≤_}
+use native.Mathlib.Nat.{le-trans, mul-le-mul-right}
+use native.Mathlib.Omega.{arith}
+use Rattle.integers.specs.Sums.{norm}
+use Rattle.integers.proofs.SumLaws.{sumN-upto}
+use Rattle.rows.specs.Table.{Table, rowWeight, denominator}
+use Rattle.rows.specs.FilterTables.{table2x12, table3x3, table3x5, tableHenderson}
+use Rattle.rows.proofs.RowTests.{all-at, fair, AllFair, Fair, fair-row}
+use Rattle.rows.proofs.Means.{mean, AllMeans, mean-row}
+use Rattle.rows.proofs.Rules.{means2x12, means3x3, means3x5, fairHenderson}
+use Rattle.filters.specs.Filter.{earlier, later, rowAt}
+
+-- the row of a place is one of the table's, and has no more weights
+pub row-in : (F : Table) (n t : ℕ) → rowAt F n t < 2 * F .side + 1
+unfolding rowAt earlier
+row-in F n t = omega arith
+
+pub weights-in : (F : Table) (n t : ℕ) → earlier F t + 1 + later F n t ≤ 2 * F .side + 1
+unfolding earlier later
+weights-in F n t = omega arith
+
+-- the row of every place is so: what the laws of a filter ask
+pub record Light (L N : ℕ) (F : Table) : Type 0 where
+  pub at : (n t : ℕ) → Fair L N (denominator F (rowAt F n t)) (norm (earlier F t + 1 + later F n t) (rowWeight F (rowAt F n t)))
+
+pub light-rows : (F : Table) (L N : ℕ) → ((r : ℕ) → r < 2 * F .side + 1 → Fair L N (denominator F r) (norm (2 * F .side + 1) (rowWeight F r))) → Light L N F
+light-rows F L N h = record {
+  at = λ n t. let f = h (rowAt F n t) (row-in F n t) in
+      record { positive = f .positive; divides = f .divides; light = le-trans (mul-le-mul-right 1000 (sumN-upto _ (2 * F .side + 1) _ (weights-in F n t))) (f .light) };
+}
+
+-- by the test of a norm, and by that of non-negative weights that sum to one
+pub all-light : (F : Table) (L N : ℕ) → AllFair L N F → Light L N F
+all-light F L N ok = light-rows F L N (λ r l. fair-row F L N r (all-at (2 * F .side + 1) (fair L N F) ok r l))
+
+pub all-means : (F : Table) (L : ℕ) → AllMeans L F → Light L 1000 F
+all-means F L ok = light-rows F L 1000 (λ r l. mean-row F L r (all-at (2 * F .side + 1) (mean L F) ok r l))
+
+-- ---- the four filters
+pub light2x12 : Light 24 1000 table2x12
+light2x12 = all-means table2x12 24 means2x12
+
+pub light3x3 : Light 27 1000 table3x3
+light3x3 = all-means table3x3 27 means3x3
+
+pub light3x5 : Light 60 1000 table3x5
+light3x5 = all-means table3x5 60 means3x5
+
+pub lightHenderson : Light 4_199_000_000 1300 tableHenderson
+lightHenderson = all-light tableHenderson 4_199_000_000 1300 fairHenderson

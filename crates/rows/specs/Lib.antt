@@ -1,0 +1,7 @@
+-- Document 01, "Filters": the stored rows, what they obey, and where Henderson's come from.
+pub mod Table
+pub mod MeanRows
+pub mod HendersonRows
+pub mod FilterTables
+pub mod RowRules
+pub mod Henderson

@@ -1,0 +1,24 @@
+-- What the functions ask of their arguments. Nothing here is promised to a caller of the desk.
+use mathlib.Core.Path.{_≡_}
+use mathlib.Core.List.{List}
+use Prim.Native.Nat.{ℕ, _≤_}
+use lib.ListN.{length}
+use lib.IntN.{ℤ}
+use Rattle.integers.specs.Lists.{AllWithin}
+use Rattle.refusals.specs.Limits.{mostMonths, largestFigure}
+
+-- no number that is taken from another is larger: the final trend is the largest, at most 1.44 times what is filtered (filters, Contracts)
+abbrev pub widest : ℕ
+widest = 2_500_000_000_000
+
+-- both slices of a difference
+pub record Minusable (x y : List ℤ) : Type 0 where
+  pub short : length x ≤ mostMonths
+  pub long : length y ≡ length x
+  pub left : AllWithin widest x
+  pub right : AllWithin widest y
+
+-- figures within the limits, of a series that is not too long
+pub record Figures (figures : List ℤ) : Type 0 where
+  pub short : length figures ≤ mostMonths
+  pub small : AllWithin largestFigure figures
