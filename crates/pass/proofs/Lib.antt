@@ -1,5 +1,3 @@
--- Laws of a pass.
-pub mod Distances
-pub mod Largest
+-- Laws that the code of a pass uses.
 pub mod Places
 pub mod Stages

@@ -5,16 +5,18 @@ ghost use lib.ListN.{length};
 ghost use lib.IntN.{pos, _-ℤ_};
 ghost use Rattle.integers.specs.Filling.{Filled};
 ghost use Rattle.integers.specs.Lists.{_‼_};
-ghost use Rattle.filters.specs.Filter.{filter, minus, pick};
-ghost use Rattle.filters.specs.Tables.{tableHenderson};
-ghost use Rattle.pass.specs.Steps.{T2, S1, S2};
-ghost use Rattle.pass.specs.Places.{nearest, widened};
-ghost use Rattle.pass.specs.Passed.{Passed};
-ghost use Rattle.pass.specs.Asks.{along, Along, Series, Levels, Lent, Adjustable, Work};
+ghost use Rattle.refusals.specs.Limits.{mostMonths};
+ghost use Rattle.series.specs.Operations.{minus};
+ghost use Rattle.rows.specs.FilterTables.{tableHenderson};
+ghost use Rattle.filters.specs.Filter.{filter};
+ghost use Rattle.steps.specs.Choices.{plainMonthly};
+ghost use Rattle.steps.specs.Steps.{T2, S1, S2};
+ghost use Rattle.steps.specs.Places.{widened};
+ghost use Rattle.pass.specs.Contracts.{lessLevels, along, Along, PassSeries, Levels, Lent, Adjustable, Work, PassDone};
 
 // r at place t less level i.
 fn less_at(r: &[i64], m: &[i64], t: usize, i: usize) -> i64
-    requires { ⌜ Levels (now r) (now m) × (t < length (now r)) × (i < length (now m)) ⌝ }
+    requires { ⌜ Levels 6 (now r) (now m) × (t < length (now r)) × (i < length (now m)) ⌝ }
     ensures { λ z. ⌜ z ≡ (now (r .entry) ‼ t) -ℤ (now (m .entry) ‼ i) ⌝ }
 {
     r[t] - m[i]
@@ -22,8 +24,9 @@ fn less_at(r: &[i64], m: &[i64], t: usize, i: usize) -> i64
 
 // r less its levels, at the places from lo to below hi: level i at the first, and at each further place `step` levels on.
 fn less_from(r: &[i64], m: &[i64], i: usize, step: usize, lo: usize, hi: usize, out: &mut [i64])
-    requires { ⌜ Levels (now r) (now m) × Along i step lo hi (length (now r)) (length (now m)) × (length (now out) ≡ length (now r)) ⌝ }
-    ensures { λ _. ⌜ Filled (pos 0) (λ t. (now (r .entry) ‼ t) -ℤ (now (m .entry) ‼ along i step lo t)) lo hi (now (out .entry)) (now (out .exit)) ⌝ }
+    requires { ⌜ Levels 6 (now r) (now m) × Along i step lo hi (length (now r)) (length (now m)) × (length (now out) ≡ length (now r)) ⌝ }
+    ensures { λ _. ⌜ Filled (pos 0) (λ t. (now (r .entry) ‼ t) -ℤ (now (m .entry) ‼ along i step lo t)) lo hi
+        (now (out .entry)) (now (out .exit)) ⌝ }
 {
     for t in lo..hi {
         out[t] = less_at(r, m, t, i + step * (t - lo));
@@ -32,8 +35,8 @@ fn less_from(r: &[i64], m: &[i64], i: usize, step: usize, lo: usize, hi: usize, 
 
 // r less its 2x12 values m, the nearest of them repeated at both ends.
 fn less_level(r: &[i64], m: &[i64], out: &mut [i64])
-    requires { ⌜ Levels (now r) (now m) × (length (now out) ≡ length (now r)) ⌝ }
-    ensures { λ _. ⌜ now (out .exit) ≡ minus (now (r .entry)) (pick (length (now (r .entry))) (nearest (length (now (r .entry)))) (now (m .entry))) ⌝ }
+    requires { ⌜ Levels 6 (now r) (now m) × (length (now out) ≡ length (now r)) ⌝ }
+    ensures { λ _. ⌜ now (out .exit) ≡ lessLevels 6 (now (r .entry)) (now (m .entry)) ⌝ }
 {
     let n = r.len();
     less_from(r, m, 0, 0, 0, 6, out);
@@ -43,7 +46,7 @@ fn less_level(r: &[i64], m: &[i64], out: &mut [i64])
 
 // The places from lo to below hi copy s from place i on.
 fn copy_from(s: &[i64], i: usize, lo: usize, hi: usize, out: &mut [i64])
-    requires { ⌜ Along i 1 lo hi (length (now out)) (length (now s)) × (length (now out) ≤ 600) ⌝ }
+    requires { ⌜ Along i 1 lo hi (length (now out)) (length (now s)) × (length (now out) ≤ mostMonths) ⌝ }
     ensures { λ _. ⌜ Filled (pos 0) (λ t. now (s .entry) ‼ along i 1 lo t) lo hi (now (out .entry)) (now (out .exit)) ⌝ }
 {
     for t in lo..hi {
@@ -53,8 +56,8 @@ fn copy_from(s: &[i64], i: usize, lo: usize, hi: usize, out: &mut [i64])
 
 // All months from the middle ones: the first six copy those twelve months later, the last six those twelve months earlier.
 fn widen(s: &[i64], out: &mut [i64])
-    requires { ⌜ (12 ≤ length (now s)) × (length (now out) ≤ 600) × (length (now s) + 12 ≡ length (now out)) ⌝ }
-    ensures { λ _. ⌜ now (out .exit) ≡ widened (now (s .entry)) ⌝ }
+    requires { ⌜ (12 ≤ length (now s)) × (length (now out) ≤ mostMonths) × (length (now s) + 12 ≡ length (now out)) ⌝ }
+    ensures { λ _. ⌜ now (out .exit) ≡ widened 6 (now (s .entry)) ⌝ }
 {
     let n = out.len();
     copy_from(s, 6, 0, 6, out);
@@ -64,12 +67,12 @@ fn widen(s: &[i64], out: &mut [i64])
 
 // Steps 1 to 4: S1 of x in out. p and q hold n - 12 numbers, r n - 24.
 fn first_seasonal(x: &[i64], p: &mut [i64], q: &mut [i64], r: &mut [i64], out: &mut [i64])
-    requires { ⌜ Series (now x) × Lent (now x) (now p) (now q) (now r) (now out) ⌝ }
-    ensures { λ _. ⌜ now (out .exit) ≡ S1 (now (x .entry)) ⌝ }
+    requires { ⌜ PassSeries 6 (now x) × Lent 6 (now x) (now p) (now q) (now r) (now out) ⌝ }
+    ensures { λ _. ⌜ now (out .exit) ≡ S1 plainMonthly (now (x .entry)) ⌝ }
 {
     let e = x.len() - 6;
     filters::two_by_twelve(x, p);
-    filters::minus(&x[6..e], p, q);
+    series::minus(&x[6..e], p, q);
     filters::three_by_three(q, p);
     filters::two_by_twelve(p, r);
     less_level(p, r, q);
@@ -81,17 +84,17 @@ pub fn trend(x: &[i64], s: &[i64], a: &mut [i64], out: &mut [i64])
     requires { ⌜ Adjustable (now x) (now s) × (length (now a) ≡ length (now x)) × (length (now out) ≡ length (now x)) ⌝ }
     ensures { λ _. ⌜ now (out .exit) ≡ filter tableHenderson (minus (now (x .entry)) (now (s .entry))) ⌝ }
 {
-    filters::minus(x, s, a);
+    series::minus(x, s, a);
     filters::henderson(a, out);
 }
 
 // Steps 6 and 7: S2 of x in out, from its T2.
 fn final_seasonal(x: &[i64], t: &[i64], a: &mut [i64], b: &mut [i64], out: &mut [i64])
-    requires { ⌜ Series (now x) × (now t ≡ T2 (now x)) × Work (now x) (now a) (now b) (now out) ⌝ }
-    ensures { λ _. ⌜ now (out .exit) ≡ S2 (now (x .entry)) ⌝ }
+    requires { ⌜ PassSeries 6 (now x) × (now t ≡ T2 plainMonthly (now x)) × Work (now x) (now a) (now b) (now out) ⌝ }
+    ensures { λ _. ⌜ now (out .exit) ≡ S2 plainMonthly (now (x .entry)) ⌝ }
 {
     let e = x.len() - 12;
-    filters::minus(x, t, a);
+    series::minus(x, t, a);
     filters::three_by_five(a, b);
     filters::two_by_twelve(b, &mut a[..e]);
     less_level(b, &a[..e], out);
@@ -99,8 +102,8 @@ fn final_seasonal(x: &[i64], t: &[i64], a: &mut [i64], b: &mut [i64], out: &mut 
 
 // Steps 1 to 7: T2 and S2 of x; a and b are work space.
 pub fn one_pass(x: &[i64], a: &mut [i64], b: &mut [i64], t: &mut [i64], s: &mut [i64])
-    requires { ⌜ Series (now x) × Work (now x) (now a) (now b) (now s) × (length (now t) ≡ length (now x)) ⌝ }
-    ensures { λ _. ⌜ Passed (now (x .entry)) (now (t .exit)) (now (s .exit)) ⌝ }
+    requires { ⌜ PassSeries 6 (now x) × Work (now x) (now a) (now b) (now s) × (length (now t) ≡ length (now x)) ⌝ }
+    ensures { λ _. ⌜ PassDone (now (x .entry)) (now (t .exit)) (now (s .exit)) ⌝ }
 {
     let e = x.len() - 12;
     let m = x.len() - 24;

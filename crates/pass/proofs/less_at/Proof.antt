@@ -1,6 +1,6 @@
 -- `pass::less_at` meets its contract: both numbers are small enough for their difference to fit.
 -- Assumes nothing.
-use Rattle.integers.specs.Words.{i-, i-fits, i-kept, i-in}
+use Rattle.integers.proofs.Signed64.{i-, i-fits, i-kept, i-in}
 use borrow.Author.Needs.{needs}
 use Rattle.pass.proofs.less_at.Statement.{statement}
 use Rattle.pass.proofs.less_at.Tie as tie

@@ -6,9 +6,10 @@ use native.Mathlib.Omega.{arith}
 use lib.ListN.{length}
 use lib.IntN.{pos, _-ℤ_}
 use Rattle.integers.specs.Lists.{_‼_}
-use Rattle.integers.specs.Words.{kept}
-use Rattle.integers.specs.Filling.{Filled, filled-none, filled-more}
-use Rattle.pass.specs.Asks.{along}
+use Rattle.integers.proofs.Signed64.{kept}
+use Rattle.integers.specs.Filling.{Filled}
+use Rattle.integers.proofs.FillingLaws.{filled-none, filled-more}
+use Rattle.pass.specs.Contracts.{along}
 use Rattle.pass.proofs.less_from.Statement.{statement}
 use Rattle.pass.proofs.less_from.Tie as tie
 

@@ -5,8 +5,8 @@ use mathlib.Core.Path.{_≡_, _∙_}
 use mathlib.Core.List.{_++_}
 use native.Mathlib.Omega.{arith}
 use lib.ListN.{length, drop}
-use Rattle.integers.specs.Fronts.{front-long, front-more, front-kept}
-use Rattle.pass.proofs.Distances.{pass-near}
+use Rattle.integers.proofs.Fronts.{front-long, front-more, front-kept}
+use Rattle.steps.proofs.Sound.{plain-sound}
 use Rattle.pass.proofs.Stages.{adjustable, to-t2}
 use borrow.Author.Needs.{needs}
 use Rattle.pass.proofs.one_pass.Statement.{statement}
@@ -66,11 +66,11 @@ first-seasonal-requires c κs = let s = c .before .before .before .before in let
 
 trend-requires : tie.Need-trend-requires
 trend-requires c κs = let f = c .before .before .before .before .before .before .before in let s = f .before .before .before .before .before in
-    (adjustable (s .pre .0) (f .first-seasonal .ensures), a-back f, t-back f)
+    (adjustable plain-sound (s .pre .0) (f .first-seasonal .ensures), a-back f, t-back f)
 
 final-seasonal-requires : tie.Need-final-seasonal-requires
 final-seasonal-requires c κs = let p = c .before .before .before .before .before .before in let f = p .before .before .before .before .before .before .before .before in let s = f .before .before .before .before .before in
-    (s .pre .0, to-t2 (s .pre .0) (f .first-seasonal .ensures) (p .trend .ensures), record { a-long = omega (arith, a-back f); b-long = b-back f; out-long = omega (arith, s .pre .1 .out-long) })
+    (s .pre .0, to-t2 plain-sound (s .pre .0) (f .first-seasonal .ensures) (p .trend .ensures), record { a-long = omega (arith, a-back f); b-long = b-back f; out-long = omega (arith, s .pre .1 .out-long) })
 
 same-length : tie.Need-same-length
 same-length c = search needs
@@ -86,7 +86,7 @@ same-length-4 c = search needs
 
 returns : tie.Need-returns
 returns c = let l = c .before .before .before in let p = l .before .before .before .before .before .before .before in let f = p .before .before .before .before .before .before .before .before in let s = f .before .before .before .before .before in
-    record { trend = to-t2 (s .pre .0) (f .first-seasonal .ensures) (p .trend .ensures); seasonal = l .final-seasonal .ensures; near = pass-near _ }
+    record { trend = to-t2 plain-sound (s .pre .0) (f .first-seasonal .ensures) (p .trend .ensures); seasonal = l .final-seasonal .ensures }
 
 pub one-pass-spec : {M : Type 1} → statement M
 one-pass-spec =

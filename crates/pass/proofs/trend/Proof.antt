@@ -3,7 +3,7 @@
 use mathlib.Core.Path.{ap, _∙_}
 use native.Mathlib.Omega.{arith}
 use Rattle.filters.specs.Filter.{filter}
-use Rattle.filters.specs.Tables.{tableHenderson}
+use Rattle.rows.specs.FilterTables.{tableHenderson}
 use Rattle.pass.proofs.Stages.{less-filterable}
 use borrow.Author.Needs.{needs}
 use Rattle.pass.proofs.trend.Statement.{statement}

@@ -1,0 +1,5 @@
+-- Laws of a pass, by its choices.
+pub mod Sound
+pub mod Lengths
+pub mod Largest
+pub mod Distances

@@ -1,0 +1,33 @@
+-- What the laws of a pass ask of its choices.
+use mathlib.Core.Path.{_≡_, refl}
+use Prim.Native.Nat.{ℕ, _≤_}
+use native.Mathlib.Omega.{arith}
+use Rattle.filters.specs.Filter.{reach}
+use Rattle.rows.specs.FilterTables.{table2x12}
+use Rattle.filters.proofs.Light.{Light, light2x12, light3x3, light3x5, lightHenderson}
+use Rattle.steps.specs.Choices.{MovingAverage, Choices, plainMonthly}
+
+-- the sizes of the weights of each row sum to at most N thousandths
+abbrev pub Norm : ℕ → MovingAverage → Type 0
+Norm N f = Light (f .over) N (f .table)
+
+pub record Sound (c : Choices) : Type 0 where
+  -- non-negative weights that sum to one, and Henderson's
+  pub yearly-norm : Norm 1000 (c .yearly)
+  pub seasonal1-norm : Norm 1000 (c .seasonal1)
+  pub trend-norm : Norm 1300 (c .trend)
+  pub seasonal2-norm : Norm 1000 (c .seasonal2)
+  -- the yearly average stands where half a year lies on each side
+  pub year-least : 1 ≤ c .halfYear
+  pub reach-is : reach (c .yearly .table) ≡ c .halfYear
+
+pub plain-sound : Sound plainMonthly
+unfolding reach table2x12
+plain-sound = record {
+  yearly-norm = light2x12;
+  seasonal1-norm = light3x3;
+  trend-norm = lightHenderson;
+  seasonal2-norm = light3x5;
+  year-least = omega arith;
+  reach-is = refl;
+}

@@ -1,0 +1,72 @@
+-- What a pass chooses. Document 01 settles every choice (`plainMonthly`, below); the steps and their exact working are stated for any, and take
+-- the same value, so that the exact working holds what the rounded steps chose.
+use mathlib.Core.List.{List}
+use Prim.Native.Nat.{ℕ}
+use lib.IntN.{ℤ}
+use Rattle.rows.specs.Table.{Table}
+use Rattle.rows.specs.FilterTables.{table2x12, table3x3, table3x5, tableHenderson}
+
+-- a moving average: its rows, and the denominator of its exact working, a multiple of those of the rows
+pub record MovingAverage : Type 0 where
+  pub table : Table
+  pub over : ℕ
+
+abbrev pub average2x12 : MovingAverage
+average2x12 = record { table = table2x12; over = 24 }
+
+abbrev pub average3x3 : MovingAverage
+average3x3 = record { table = table3x3; over = 27 }
+
+abbrev pub average3x5 : MovingAverage
+average3x5 = record { table = table3x5; over = 60 }
+
+-- 4,199,000,000 is the least common multiple of 16,796 and 1,000,000
+abbrev pub henderson13 : MovingAverage
+henderson13 = record { table = tableHenderson; over = 4_199_000_000 }
+
+-- what is done to the values of SI1 or SI2 before they are filtered
+pub data Replacing : Type 0 where
+  -- they are not replaced
+  none : Replacing
+
+abbrev pub replaced : Replacing → List ℤ → List ℤ
+replaced none si = si
+
+-- the same exactly, over `overReplaced` times the denominator of si
+abbrev pub exactReplaced : Replacing → List ℤ → List ℤ
+exactReplaced none si = si
+
+abbrev pub overReplaced : Replacing → ℕ
+overReplaced none = 1
+
+pub record Choices : Type 0 where
+  -- half a year, in months
+  pub halfYear : ℕ
+  -- steps 1, 4 and 7: the average over a year, which takes half a year on each side
+  pub yearly : MovingAverage
+  -- step 3
+  pub seasonal1 : MovingAverage
+  -- step 5
+  pub trend : MovingAverage
+  -- step 6
+  pub seasonal2 : MovingAverage
+  -- SI1 before step 3, SI2 before its filter in step 6
+  pub replacing1 : Replacing
+  pub replacing2 : Replacing
+
+-- a pass over months: 2×12, 3×3 in step 3, Henderson's 13 terms in step 5; what is left to choose is the filter of step 6 and what is replaced
+abbrev pub monthly : MovingAverage → Replacing → Replacing → Choices
+monthly seasonal2 replacing1 replacing2 =
+    record {
+      halfYear = 6;
+      yearly = average2x12;
+      seasonal1 = average3x3;
+      trend = henderson13;
+      seasonal2 = seasonal2;
+      replacing1 = replacing1;
+      replacing2 = replacing2;
+    }
+
+-- 3×5 in step 6, and no value of SI1 and SI2 is replaced
+abbrev pub plainMonthly : Choices
+plainMonthly = monthly average3x5 none none
