@@ -1,10 +1,10 @@
--- What the proofs of the functions cite. Laws is for callers; Words and Example show that the rules say what document 01 says.
+-- Laws of the definitions, cited by the proofs of the functions. WeighingLaws is for callers too; GroupMonths shows that the groups are those of
+-- document 01.
 pub mod ListLaws
-pub mod Bounds
-pub mod Calendar
-pub mod Keeping
-pub mod Running
+pub mod HeldSizes
+pub mod YearLaws
+pub mod GroupMonths
+pub mod SpreadLaws
+pub mod RunningSums
 pub mod Groups
-pub mod Laws
-pub mod Words
-pub mod Example
+pub mod WeighingLaws

@@ -20,8 +20,8 @@ module _ {A : Type 0} {B : Type 0} (f : A → B) where
   map-tab n g = map-tabFrom 0 n g
 
 -- natural numbers held as signed ones, read back
-pub sizes-back : (l : List ℕ) → map natAbs (map pos l) ≡ l
-sizes-back l = map-map natAbs pos l ∙ map-id l
+pub read-back : (l : List ℕ) → map natAbs (map pos l) ≡ l
+read-back l = map-map natAbs pos l ∙ map-id l
 
 -- no number of the list is above b
 pub record AllBelow (b : ℕ) (l : List ℕ) : Type 0 where

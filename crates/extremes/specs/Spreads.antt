@@ -9,8 +9,8 @@ use Rattle.integers.specs.Lists.{_‼_, tab}
 use Rattle.integers.specs.Root.{root}
 use Rattle.integers.specs.Rounding.{awayFromZero}
 use Rattle.refusals.specs.Limits.{unit}
-use Rattle.extremes.specs.declared.Spread.{Spread}
-use Rattle.extremes.specs.declared.Spread.the-variants.{Of, Nothing}
+use Rattle.extremes.specs.declared.spreads.Spread.{Spread}
+use Rattle.extremes.specs.declared.spreads.Spread.the-variants.{Of, Nothing}
 
 -- "The irregular is first rounded to whole units": a half goes away from zero, as for grains (the paper does not say; DECISIONS 1). The size of a
 -- month's irregular, and the sizes of all months
@@ -38,10 +38,10 @@ keep limit (a ∷ g) = cond (ltb limit (2 * a)) (keep limit g) (a ∷ keep limit
 unfoldable pub remaining : List ℕ → List ℕ
 remaining g = keep (5 * spread g) g
 
--- "and the spread is worked again in the same way". (A group is never emptied: proofs/Laws.antt, never-emptied)
+-- "and the spread is worked again in the same way". (A group is never emptied: proofs/WeighingLaws.antt, never-emptied)
 unfoldable pub secondSpread : List ℕ → ℕ
 secondSpread g = spread (remaining g)
 
--- a spread as the code answers it: there is none of no months
+-- a spread as the code answers it: `Nothing` where there is no month
 unfoldable pub spreadOf : List ℕ → Spread
 spreadOf g = cond (eqb (length g) 0) Nothing (Of (spread g))

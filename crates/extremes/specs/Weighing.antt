@@ -6,7 +6,7 @@ use lib.Dec.{ltb, eqb}
 use lib.ListN.{length, getD}
 use lib.IntN.{ℤ, pos, _*ℤ_}
 use Rattle.integers.specs.Lists.{tab}
-use Rattle.integers.specs.Rounding.{nearest, toGrain}
+use Rattle.integers.specs.Rounding.{halfUp, toGrain}
 use Rattle.refusals.specs.Limits.{fullWeight}
 use Rattle.extremes.specs.Years.{yearOf, years, group}
 use Rattle.extremes.specs.Spreads.{sizesOf, remaining, secondSpread}
@@ -21,38 +21,39 @@ weight σ a =
     cond (eqb σ 0) (cond (eqb a 0) fullWeight 0)
     (cond (ltb (5 * σ) (2 * a)) 0
     (cond (ltb (2 * a) (3 * σ)) fullWeight
-    (2500 - nearest (fullWeight * a) σ)))
+    (2500 - halfUp (fullWeight * a) σ)))
 
 -- the weight of month t by a spread
 unfoldable pub weightBy : ℕ → List ℕ → ℕ → ℕ
 weightBy σ sizes t = weight σ (getD sizes t 0)
 
--- by the second spread of its year
-unfoldable pub weightAt : ℕ → List ℕ → ℕ → ℕ
-weightAt start sizes t = weightBy (secondSpread (group start sizes (yearOf start t))) sizes t
+module _ (start period : ℕ) where
+  -- by the second spread of its year
+  unfoldable pub monthWeight : List ℕ → ℕ → ℕ
+  monthWeight sizes t = weightBy (secondSpread (group start period sizes (yearOf start period t))) sizes t
 
--- all months, a begun year's too
-unfoldable pub weightsBy : ℕ → List ℕ → List ℕ
-weightsBy start sizes = tab (length sizes) (weightAt start sizes)
+  -- all months, a begun year's too
+  unfoldable pub weightsBy : List ℕ → List ℕ
+  weightsBy sizes = tab (length sizes) (monthWeight sizes)
 
--- the weights of an irregular
-unfoldable pub weightsOf : ℕ → List ℤ → List ℕ
-weightsOf start x = weightsBy start (sizesOf x)
+  -- the weights of an irregular
+  unfoldable pub weightsOf : List ℤ → List ℕ
+  weightsOf x = weightsBy (sizesOf x)
 
--- row 6, "dropping leaves a group empty": some year below k has such a group
-unfoldable pub emptiedBelow : ℕ → ℕ → List ℕ → Bool
-emptiedBelow zero start sizes = false
-emptiedBelow (suc k) start sizes = cond (eqb (length (remaining (group start sizes k))) 0) true (emptiedBelow k start sizes)
+  -- row 6, "dropping leaves a group empty": some year below k has such a group
+  unfoldable pub emptiedBelow : ℕ → List ℕ → Bool
+  emptiedBelow zero sizes = false
+  emptiedBelow (suc k) sizes = cond (eqb (length (remaining (group start period sizes k))) 0) true (emptiedBelow k sizes)
 
-unfoldable pub emptied : ℕ → List ℕ → Bool
-emptied start sizes = emptiedBelow (years start (length sizes)) start sizes
+  unfoldable pub emptied : List ℕ → Bool
+  emptied sizes = emptiedBelow (years start period (length sizes)) sizes
 
--- the answer to an irregular, for the crate above: decomposing gives row 6 its number (decompose, Promise)
-unfoldable pub answerBy : ℕ → List ℕ → Weighed
-answerBy start sizes = cond (emptied start sizes) EmptyGroup Weights
+  -- the answer to an irregular, for the crate above: decomposing gives row 6 its number (decompose, Promise)
+  unfoldable pub answerBy : List ℕ → Weighed
+  answerBy sizes = cond (emptied sizes) EmptyGroup Weights
 
-unfoldable pub answerOf : ℕ → List ℤ → Weighed
-answerOf start x = answerBy start (sizesOf x)
+  unfoldable pub answerOf : List ℤ → Weighed
+  answerOf x = answerBy (sizesOf x)
 
 -- "B13 times (1,000 less its weight) over 1,000", rounded once to a grain
 unfoldable pub correctionOf : ℤ → ℕ → ℤ

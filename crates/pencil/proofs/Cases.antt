@@ -2,15 +2,16 @@
 use mathlib.Core.Path.{refl}
 use Rattle.integers.specs.Lists.{tabFrom, tab}
 use Rattle.integers.specs.Root.{oneMore, rootIn, root}
-use Rattle.integers.specs.Rounding.{nearest, awayFromZero, toGrain}
+use Rattle.integers.specs.Rounding.{halfUp, awayFromZero, toGrain}
 use Rattle.integers.specs.Sums.{sumZ}
-use Rattle.filters.specs.Filter.{weightAt, denominator, before, after, rowAt, dot, weighed, valueAt, filter, reach, inside}
-use Rattle.filters.specs.Tables.{table2x12, table3x3, table3x5, tableHenderson}
+use Rattle.rows.specs.Table.{rowWeight, denominator}
+use Rattle.filters.specs.Filter.{earlier, later, rowAt, dot, weightedSum, valueAt, filter, reach, inside}
+use Rattle.rows.specs.FilterTables.{table2x12, table3x3, table3x5, tableHenderson}
 use Rattle.extremes.specs.Spreads.{squares, spread, keep, remaining, secondSpread}
 use Rattle.extremes.specs.Weighing.{weight, correctionOf}
 use Rattle.pencil.specs.Pencil.{pencil, PencilHolds}
 
 pub pencil-holds : PencilHolds
-unfolding pencil tabFrom tab oneMore rootIn root nearest awayFromZero toGrain sumZ weightAt denominator before after rowAt dot weighed valueAt filter
+unfolding pencil tabFrom tab oneMore rootIn root halfUp awayFromZero toGrain sumZ rowWeight denominator earlier later rowAt dot weightedSum valueAt filter
     reach inside table2x12 table3x3 table3x5 tableHenderson squares spread keep remaining secondSpread weight correctionOf
 pencil-holds = refl

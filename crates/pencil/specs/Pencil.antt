@@ -8,7 +8,7 @@ use lib.IntN.{ℤ, pos, negsuc}
 use Rattle.integers.specs.Lists.{_‼_, tab}
 use Rattle.integers.specs.Rounding.{toGrain}
 use Rattle.filters.specs.Filter.{filter, inside}
-use Rattle.filters.specs.Tables.{table2x12, table3x3, table3x5, tableHenderson}
+use Rattle.rows.specs.FilterTables.{table2x12, table3x3, table3x5, tableHenderson}
 use Rattle.extremes.specs.Spreads.{spread, secondSpread}
 use Rattle.extremes.specs.Weighing.{weight, correctionOf}
 
@@ -39,8 +39,8 @@ whole = map pos
 abbrev at2x12 : List ℤ → List ℕ → List ℤ
 at2x12 x places = at (inside table2x12 x) (map (λ t. t - 6) places)
 
-abbrev group : List ℕ
-group = 0 ∷ 0 ∷ 0 ∷ 1 ∷ []
+abbrev exampleGroup : List ℕ
+exampleGroup = 0 ∷ 0 ∷ 0 ∷ 1 ∷ []
 
 unfoldable pub pencil : List Case
 pencil =
@@ -48,7 +48,7 @@ pencil =
     (at2x12 (one 30 24_000) (30 ∷ 24 ∷ 36 ∷ []) gives whole (2000 ∷ 1000 ∷ 1000 ∷ []))
     -- Henderson, 16,796 at one place with at least twelve months on each side, else 0: 4,032 there, 3,600 next, -325 at six away
     ∷ (at (filter tableHenderson (one 30 16_796)) (30 ∷ 29 ∷ 31 ∷ 24 ∷ 36 ∷ []) gives (pos 4032 ∷ pos 3600 ∷ pos 3600 ∷ negsuc 324 ∷ negsuc 324 ∷ []))
-    -- 3×3, run ending in 27,000, else 0: last three results 3,000, 7,000, 11,000. December's run of six years ends at places 35, 47, 59, 71
+    -- 3×3, run ending in 27,000, else 0: last three results 3,000, 7,000, 11,000. the run of places 11, 23, .. ends with 35, 47, 59, 71
     ∷ (at (filter table3x3 (one 71 27_000)) (47 ∷ 59 ∷ 71 ∷ []) gives whole (3000 ∷ 7000 ∷ 11_000 ∷ []))
     -- 3×5, run ending in 60,000, else 0: last four 4,000, 9,000, 15,000, 17,000
     ∷ (at (filter table3x5 (one 71 60_000)) (35 ∷ 47 ∷ 59 ∷ 71 ∷ []) gives whole (4000 ∷ 9000 ∷ 15_000 ∷ 17_000 ∷ []))
@@ -61,8 +61,8 @@ pencil =
     -- irregular 500 grains, weight 833: correction 84
     ∷ (correctionOf (pos 500) 833 ∷ [] gives whole (84 ∷ []))
     -- group 0, 0, 0, 1: both spreads 0, weights 1,000, 1,000, 1,000, 0
-    ∷ (whole (spread group ∷ secondSpread group ∷ []) gives whole (0 ∷ 0 ∷ []))
-    ∷ (whole (map (weight (secondSpread group)) group) gives whole (1000 ∷ 1000 ∷ 1000 ∷ 0 ∷ []))
+    ∷ (whole (spread exampleGroup ∷ secondSpread exampleGroup ∷ []) gives whole (0 ∷ 0 ∷ []))
+    ∷ (whole (map (weight (secondSpread exampleGroup)) exampleGroup) gives whole (1000 ∷ 1000 ∷ 1000 ∷ 0 ∷ []))
     ∷ []
 
 -- the whole list holds (shown in proofs/Cases.antt)

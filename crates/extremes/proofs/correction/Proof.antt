@@ -9,7 +9,7 @@ use mir.Syntax.{w64}
 use mir.Val.{toZ, ofZ}
 use borrow.Author.Needs.{needs}
 use Rattle.integers.specs.Rounding.{toGrain}
-use Rattle.integers.specs.Words.{Reads, i-arg, i-cast, i-lit, i*, i-fits, i-kept, rounds, kept}
+use Rattle.integers.proofs.Signed64.{Reads, i-arg, i-cast, i-lit, i*, i-fits, i-kept, rounds, kept}
 use Rattle.refusals.specs.Limits.{fullWeight}
 use Rattle.extremes.specs.Weighing.{correctionOf}
 use Rattle.extremes.specs.Contracts.{largestIrregular}

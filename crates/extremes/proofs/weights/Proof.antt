@@ -10,9 +10,9 @@ use borrow.Author.Needs.{needs}
 use Rattle.refusals.specs.Limits.{mostMonths}
 use Rattle.extremes.specs.Spreads.{sizesOf}
 use Rattle.extremes.specs.Weighing.{weightsBy, weightsOf, answerBy, answerOf}
-use Rattle.extremes.specs.Contracts.{Calendar, Weighable, Outcome, sizesIn, runningSquares, Sizes}
+use Rattle.extremes.specs.Contracts.{Calendar, Weighable, Outcome, sizesIn, runningSquares, HoldsSizes, Summed, WeighedBy}
 use Rattle.extremes.specs.declared.Weighed.{Weighed}
-use Rattle.extremes.proofs.Groups.{sizes-held, length-held, held-sizes}
+use Rattle.extremes.proofs.HeldSizes.{sizes-held, length-held, held-sizes}
 use Rattle.extremes.proofs.weights.Statement.{statement}
 use Rattle.extremes.proofs.weights.Tie as tie
 
@@ -23,36 +23,35 @@ module _ (x : List ℤ) {work : List ℤ} (e : work ≡ map pos (sizesOf x)) whe
   sizes-found : sizesIn work ≡ sizesOf x
   sizes-found = ap sizesIn e ∙ sizes-held x
 
-  module _ {start : ℕ} {sizes sums : List ℤ} {out : List ℕ} (p : Weighable start x sizes sums out) where
-    sizes-in : Sizes work
-    sizes-in = subst⁻¹ Sizes e (held-sizes (p .small))
+  module _ {start period : ℕ} {sizes sums : List ℤ} {out : List ℕ} (p : Weighable start period x sizes sums out) where
+    sizes-in : HoldsSizes work
+    sizes-in = subst⁻¹ HoldsSizes e (held-sizes (p .small))
 
-    summed : Sizes work × (length work ≤ mostMonths) × (length sums ≡ length work)
-    summed = (sizes-in, omega (arith, months-held, p .calendar .most), p .sums ∙ sym months-held)
+    summable : HoldsSizes work × (length work ≤ mostMonths) × (length sums ≡ length work)
+    summable = (sizes-in, omega (arith, months-held, p .calendar .most), p .sums ∙ sym months-held)
 
-    weighed : {running : List ℤ} → running ≡ map pos (runningSquares (sizesIn work))
-        → Calendar start (length work) × Sizes work × (running ≡ map pos (runningSquares (sizesIn work))) × (length out ≡ length work)
-    weighed f = (subst⁻¹ (Calendar start) months-held (p .calendar), sizes-in, f, p .weights ∙ sym months-held)
+    summed : {running : List ℤ} → running ≡ map pos (runningSquares (sizesIn work)) → Summed start period work running × (length out ≡ length work)
+    summed f = (record { calendar = subst⁻¹ (Calendar start period) months-held (p .calendar); sizes = sizes-in; sums = f }, p .weights ∙ sym months-held)
 
-  promised : {start : ℕ} {r : Weighed} {running : List ℤ} {out : List ℕ} → running ≡ map pos (runningSquares (sizesIn work)) → r ≡ answerBy start (sizesIn work) → out ≡ weightsBy start (sizesIn work)
-      → Outcome start x r work running out
+  promised : {start period : ℕ} {r : Weighed} {running : List ℤ} {out : List ℕ} → running ≡ map pos (runningSquares (sizesIn work)) → WeighedBy start period (sizesIn work) r out
+      → Outcome start period x r work running out
   unfolding answerOf weightsOf
-  promised {start} f a w = record {
-    answer = a ∙ ap (answerBy start) sizes-found;
+  promised {start} {period} f w = record {
+    answer = w .answer ∙ ap (answerBy start period) sizes-found;
     sizes = e;
     sums = f ∙ ap (λ (l : List ℕ). map pos (runningSquares l)) sizes-found;
-    weights = w ∙ ap (weightsBy start) sizes-found;
+    weights = w .weights ∙ ap (weightsBy start period) sizes-found;
   }
 
 fill-sizes-requires : tie.Need-fill-sizes-requires
 fill-sizes-requires c κs = search needs
 
 fill-sums-requires : tie.Need-fill-sums-requires
-fill-sums-requires c κs = let f = c .before .before .before in let s = f .before .before .before in summed (s .args .irregular .now) (f .fill-sizes .ensures) (s .pre)
+fill-sums-requires c κs = let f = c .before .before .before in let s = f .before .before .before in summable (s .args .irregular .now) (f .fill-sizes .ensures) (s .pre)
 
 weigh-groups-requires : tie.Need-weigh-groups-requires
 weigh-groups-requires c κs = let u = c .before .before .before .before in let f = u .before .before .before .before in let s = f .before .before .before in
-    weighed (s .args .irregular .now) (f .fill-sizes .ensures) (s .pre) (u .fill-sums .ensures)
+    summed (s .args .irregular .now) (f .fill-sizes .ensures) (s .pre) (u .fill-sums .ensures)
 
 same-length : tie.Need-same-length
 same-length c = search needs
@@ -65,7 +64,7 @@ same-length-3 c = search needs
 
 returns : tie.Need-returns
 returns c = let w = c .before .before in let u = w .before .before .before .before .before in let f = u .before .before .before .before in
-    promised (f .before .before .before .args .irregular .now) (f .fill-sizes .ensures) (u .fill-sums .ensures) (w .weigh-groups .ensures .0) (w .weigh-groups .ensures .1)
+    promised (f .before .before .before .args .irregular .now) (f .fill-sizes .ensures) (u .fill-sums .ensures) (w .weigh-groups .ensures)
 
 pub weights-spec : {M : Type 1} → statement M
 weights-spec =
