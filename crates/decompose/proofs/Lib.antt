@@ -1,8 +1,5 @@
 -- Laws of decomposing.
-pub mod Sizes
-pub mod Series
-pub mod Revising
-pub mod Checks
+pub mod Grains
+pub mod Correcting
 pub mod Passes
-pub mod Near
 pub mod Answers

@@ -1,5 +1,3 @@
--- Document 01, "Three passes" and "Refusal sheet": the tables, their exact working, and what decomposing promises.
-pub mod Tables
-pub mod Exact
+-- Document 01, "Refusal sheet": what decomposing promises. Contracts has what the functions below it ask and leave.
 pub mod Promise
-pub mod Asks
+pub mod Contracts

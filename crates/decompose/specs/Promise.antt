@@ -1,24 +1,19 @@
 -- Document 01, "Refusal sheet": what decomposing answers, and what it leaves in the lent slices, for all inputs.
 use mathlib.Core.Path.{_≡_}
-use mathlib.Core.Bool.{Bool, cond, not, _&&_, _||_}
+use mathlib.Core.Bool.{cond}
 use mathlib.Core.List.{List, _++_}
-use Prim.Native.Nat.{ℕ, _*_, _<_}
-use lib.Dec.{ltb, leb, eqb}
+use Prim.Native.Nat.{ℕ, _<_}
+use lib.Dec.{eqb}
 use lib.ListN.{length, drop}
 use lib.IntN.{ℤ, pos}
 use Rattle.integers.specs.Lists.{tab}
-use Rattle.refusals.specs.Limits.{leastMonths, mostMonths}
-use Rattle.refusals.specs.Inside.{startInside}
-use Rattle.refusals.specs.First.{firstOutside, refusedAt}
 use Rattle.refusals.specs.Sheet.{Answer, success, refusal, refusalOf}
-use Rattle.pass.specs.Passed.{PassNear}
-use Rattle.extremes.specs.Spreads.{sizesOf}
-use Rattle.extremes.specs.Weighing.{emptied}
-use Rattle.decompose.specs.declared.Lengths.{Lengths}
+use Rattle.tables.specs.Tables.{B1, B17, C1, C17, D1, D10, D11, D12, D13}
+use Rattle.tables.specs.Nearness.{PassNear, NearAt}
+use Rattle.checks.specs.declared.Lengths.{Lengths}
+use Rattle.checks.specs.Answer.{scratchFor, answerFor}
 use Rattle.decompose.specs.declared.Decomposed.{Decomposed}
 use Rattle.decompose.specs.declared.Decomposed.the-variants.{Tables, Refused}
-use Rattle.decompose.specs.Tables.{B1, B13, B17, C1, C13, C17, D1, D10, D11, D12, D13}
-use Rattle.decompose.specs.Exact.{NearAt}
 
 -- the lent slices
 pub record Slices : Type 0 where
@@ -29,10 +24,6 @@ pub record Slices : Type 0 where
   pub b17 : List ℕ
   pub c17 : List ℕ
   pub scratch : List ℤ
-
--- the scratch is at least 8 n
-abbrev pub scratchFor : ℕ → ℕ
-scratchFor n = 8 * n
 
 -- how long they are
 unfoldable pub lengthsOf : Slices → Lengths
@@ -47,36 +38,12 @@ lengthsOf s =
       scratch = length (s .scratch);
     }
 
--- row 4: table and weight slices are exactly n long, the scratch at least 8 n
-unfoldable pub fitting : ℕ → Lengths → Bool
-fitting n l =
-    eqb (l .d10) n && (eqb (l .d11) n && (eqb (l .d12) n && (eqb (l .d13) n && (eqb (l .b17) n && (eqb (l .c17) n && leb (scratchFor n) (l .scratch))))))
-
--- row 6, "dropping leaves a group empty", in the weights of B13 or of C13. It never applies (extremes, never-emptied), and stands here because
--- the sheet has it
-unfoldable pub groupEmptied : ℕ → List ℤ → Bool
-groupEmptied start figures = emptied start (sizesOf (B13 start figures)) || emptied start (sizesOf (C13 start figures))
-
 -- what an answer says: tables, or a refusal's number and place on the sheet
 abbrev pub says : Decomposed → Answer Unit
 says Tables = success tt
 says (Refused r) = refusalOf r
 
--- checks 1, 2, 3, 4, 5 in this order; n is the number of figures. `next` is the answer where none applies
-unfoldable pub checked : ℕ → List ℤ → Lengths → Answer Unit → Answer Unit
-checked start figures lengths next =
-    let n = length figures in
-    cond (ltb n leastMonths) (refusal 1 0)
-    (cond (ltb mostMonths n) (refusal 2 0)
-    (cond (not (startInside start)) (refusal 3 0)
-    (cond (not (fitting n lengths)) (refusal 4 0)
-    (refusedAt (firstOutside figures) (refusal 5)
-    next))))
-
--- decomposing checks 1, 2, 3, 4, 5, 6; the first that applies is the answer. Of the lent slices it looks at their lengths only
-unfoldable pub answerFor : ℕ → List ℤ → Lengths → Answer Unit
-answerFor start figures lengths = checked start figures lengths (cond (groupEmptied start figures) (refusal 6 0) (success tt))
-
+-- decomposing checks 1, 2, 3, 4, 5, 6; the first that applies is the answer
 unfoldable pub answer : ℕ → List ℤ → Slices → Answer Unit
 answer start figures lent = answerFor start figures (lengthsOf lent)
 

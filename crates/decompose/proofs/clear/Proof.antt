@@ -6,7 +6,7 @@ use mathlib.Core.List.{List, _++_}
 use lib.ListN.{drop}
 use lib.IntN.{ℤ, pos}
 use Rattle.integers.specs.Lists.{tab}
-use Rattle.integers.specs.Fronts.{front-long}
+use Rattle.integers.proofs.Fronts.{front-long}
 use Rattle.decompose.specs.Promise.{zeroed}
 use borrow.Author.Needs.{needs}
 use Rattle.decompose.proofs.clear.Statement.{statement}

@@ -1,7 +1,7 @@
 -- `decompose::corrected_series` meets its contract: B1, then C1, then D1; no group is ever emptied.
 -- Assumes nothing.
 use native.Mathlib.Omega.{arith}
-use Rattle.decompose.proofs.Passes.{revisable-b, to-c1, revisable-c, never-empty, corrected}
+use Rattle.decompose.proofs.Passes.{correctable-b, to-c1, correctable-c, never-empty, corrected}
 use borrow.Author.Needs.{needs}
 use Rattle.decompose.proofs.corrected_series.Statement.{statement}
 use Rattle.decompose.proofs.corrected_series.Tie as tie
@@ -9,8 +9,8 @@ use Rattle.decompose.proofs.corrected_series.Tie as tie
 in-grains-requires : tie.Need-in-grains-requires
 in-grains-requires c κs = search needs
 
-revise-requires : tie.Need-revise-requires
-revise-requires c κs = let g = c .before .before .before .before .before .before .before in let s = g .before .before .before .before in (revisable-b (s .pre .0) (g .in-grains .ensures), s .pre .1, s .pre .3)
+correct-extremes-requires : tie.Need-correct-extremes-requires
+correct-extremes-requires c κs = let g = c .before .before .before .before .before .before .before in let s = g .before .before .before .before in (correctable-b (s .pre .0) (g .in-grains .ensures), s .pre .1, s .pre .3 .b17-long)
 
 enum-told : tie.Need-enum-told
 enum-told c = search needs
@@ -37,11 +37,11 @@ same-length-6 : tie.Need-same-length-6
 same-length-6 c = search needs
 
 returns : tie.Need-returns
-returns c = let r = c .before .before .before .before .before .before .before .before .before in let s = r .before .before .before .before .before .before .before .before .before .before .before .before in absurd (never-empty (s .pre .0) (r .revise .ensures) (c .enum-told2 .given .1))
+returns c = let r = c .before .before .before .before .before .before .before .before .before in let s = r .before .before .before .before .before .before .before .before .before .before .before .before in absurd (never-empty (s .pre .0) (r .correct-extremes .ensures) (c .enum-told2 .given .1))
 
-revise-requires-2 : tie.Need-revise-requires-2
-revise-requires-2 c κs = let r = c .before .before .before .before .before .before .before .before .before .before .before .before .before .before .before in let g = r .before .before .before .before .before .before .before .before in let s = g .before .before .before .before in
-    (revisable-c (s .pre .0) (to-c1 (s .pre .0) (g .in-grains .ensures) (r .revise .ensures)), record { a-long = omega (arith, s .pre .1, r .revise); b-long = omega (arith, s .pre .1, r .revise); t-long = omega (arith, s .pre .1, r .revise); s-long = omega (arith, s .pre .1, r .revise) }, s .pre .4)
+correct-extremes-requires-2 : tie.Need-correct-extremes-requires-2
+correct-extremes-requires-2 c κs = let r = c .before .before .before .before .before .before .before .before .before .before .before .before .before .before .before in let g = r .before .before .before .before .before .before .before .before in let s = g .before .before .before .before in
+    (correctable-c (s .pre .0) (to-c1 (s .pre .0) (g .in-grains .ensures) (r .correct-extremes .ensures)), record { a-long = omega (arith, s .pre .1, r .correct-extremes); b-long = omega (arith, s .pre .1, r .correct-extremes); t-long = omega (arith, s .pre .1, r .correct-extremes); s-long = omega (arith, s .pre .1, r .correct-extremes) }, s .pre .3 .c17-long)
 
 same-length-7 : tie.Need-same-length-7
 same-length-7 c = search needs
@@ -66,14 +66,14 @@ same-length-13 c = search needs
 
 returns-2 : tie.Need-returns-2
 returns-2 c = let q = c .before .before .before .before .before .before .before in let r = q .before .before .before .before .before .before .before .before .before .before .before .before .before .before .before .before in let g = r .before .before .before .before .before .before .before .before in let s = g .before .before .before .before in
-    corrected (s .pre .0) (g .in-grains .ensures) (r .revise .ensures) (q .revise2 .ensures)
+    corrected (s .pre .0) (g .in-grains .ensures) (r .correct-extremes .ensures) (q .correct-extremes2 .ensures)
 
 pub corrected-series-spec : {M : Type 1} → statement M
 corrected-series-spec =
     tie.close
     (tie.spec
     in-grains-requires
-    revise-requires
+    correct-extremes-requires
     enum-told
     enum-told-2
     same-length
@@ -83,7 +83,7 @@ corrected-series-spec =
     same-length-5
     same-length-6
     returns
-    revise-requires-2
+    correct-extremes-requires-2
     same-length-7
     same-length-8
     same-length-9

@@ -1,11 +1,10 @@
 -- `decompose::decompose` meets its contract: the checks, then the passes; each return keeps the promise.
 -- Assumes nothing.
 use mathlib.Core.Path.{subst}
-use lib.ListN.{length}
 use Rattle.decompose.specs.Promise.{Slices, lengthsOf}
-use Rattle.decompose.specs.Asks.{Passes, Checked}
-use Rattle.decompose.specs.declared.Check.{Check}
-use Rattle.decompose.proofs.Answers.{fits, refused, tables}
+use Rattle.checks.specs.Contracts.{Accepts, Checked}
+use Rattle.checks.specs.declared.Verdict.{Verdict}
+use Rattle.decompose.proofs.Answers.{refused, tables}
 use borrow.Author.Needs.{needs}
 use Rattle.decompose.proofs.decompose.Statement.{statement}
 use Rattle.decompose.proofs.decompose.Tie as tie
@@ -14,29 +13,33 @@ use Rattle.decompose.proofs.decompose.Tie as tie
 abbrev lent : tie.Start → Slices
 lent s = record { d10 = s .args .d10 .now; d11 = s .args .d11 .now; d12 = s .args .d12 .now; d13 = s .args .d13 .now; b17 = s .args .b17 .now; c17 = s .args .c17 .now; scratch = s .args .scratch .now }
 
-passes : (c : tie.After-enum-told) → let s = c .before .before .before .before .before in Passes (s .args .start) (s .args .figures .now) (lengthsOf (lent s))
+accepts : (c : tie.After-enum-told) → let s = c .before .before .before .before .before in Accepts (s .args .start) (s .args .figures .now) (lengthsOf (lent s))
 unfolding lengthsOf
-passes c = let r = c .before .before in let s = r .before .before .before in
-    subst (λ (k : Check). Checked k (s .args .start) (s .args .figures .now) (lengthsOf (lent s))) (c .enum-told .given .1) (r .first-refusal .ensures)
+accepts c = let r = c .before .before in let s = r .before .before .before in
+    subst (λ (k : Verdict). Checked k (s .args .start) (s .args .figures .now) (lengthsOf (lent s))) (c .enum-told .given .1) (r .first-refusal .ensures)
 
 first-refusal-requires : tie.Need-first-refusal-requires
 first-refusal-requires c κs = search needs
 
-enum-known-found : tie.Need-enum-known-found
-enum-known-found c = search needs
+enum-known-verdict : tie.Need-enum-known-verdict
+enum-known-verdict c = search needs
 
 returns : tie.Need-returns
 unfolding lengthsOf
 returns c = let r = c .before .before .before in let s = r .before .before .before in
-    refused (subst (λ (k : Check). Checked k (s .args .start) (s .args .figures .now) (lengthsOf (lent s))) (c .before .found .given .1) (r .first-refusal .ensures))
+    refused (subst (λ (k : Verdict). Checked k (s .args .start) (s .args .figures .now) (lengthsOf (lent s))) (c .before .verdict .given .1) (r .first-refusal .ensures))
 
 enum-told : tie.Need-enum-told
 enum-told c = search needs
 
 three-passes-requires : tie.Need-three-passes-requires
 unfolding lengthsOf
-three-passes-requires c κs = let t = c .before .before .before .before .before .before .before in let s = t .before .before .before .before .before in let f = fits (length (s .args .figures .now)) (lengthsOf (lent s)) (passes t .fits) in
-    (passes t .workable, record { a-long = f .d10-long; b-long = f .d11-long; t-long = f .d12-long; s-long = f .d13-long }, f .b17-long, f .c17-long, f .scratch-long)
+three-passes-requires c κs = let t = c .before .before .before .before .before .before .before in let s = t .before .before .before .before .before in let f = accepts t .fits in (
+  accepts t .workable,
+  record { a-long = f .d10-long; b-long = f .d11-long; t-long = f .d12-long; s-long = f .d13-long },
+  record { b17-long = f .b17-long; c17-long = f .c17-long },
+  record { long = f .scratch-long },
+)
 
 same-length : tie.Need-same-length
 same-length c = search needs
@@ -60,15 +63,14 @@ same-length-7 : tie.Need-same-length-7
 same-length-7 c = search needs
 
 returns-2 : tie.Need-returns-2
-returns-2 c = let q = c .before .before .before .before .before .before .before .before .before in let t = q .before .before .before .before .before .before .before .before in let s = t .before .before .before .before .before in let e = q .three-passes .ensures in
-    rw (e .0) (tables {lent = lent s} (passes t) (e .1) (e .2) (e .3) (e .4))
+returns-2 c = let q = c .before .before .before .before .before .before .before .before .before in let t = q .before .before .before .before .before .before .before .before in let s = t .before .before .before .before .before in tables {lent = lent s} (accepts t) (q .three-passes .ensures)
 
 pub decompose-spec : {M : Type 1} → statement M
 decompose-spec =
     tie.close
     (tie.spec
     first-refusal-requires
-    enum-known-found
+    enum-known-verdict
     returns
     enum-told
     three-passes-requires

@@ -7,9 +7,10 @@ use native.Mathlib.Omega.{arith}
 use lib.ListN.{length, take, drop}
 use lib.IntN.{ℤ, pos}
 use Rattle.integers.specs.Lists.{tab}
-use Rattle.integers.specs.Fronts.{front-long, front-back, front-kept, front-rest}
-use Rattle.decompose.specs.Tables.{D1}
-use Rattle.decompose.specs.Promise.{scratchFor, zeroed}
+use Rattle.integers.proofs.Fronts.{front-long, front-back, front-kept, front-rest}
+use Rattle.tables.specs.Tables.{D1}
+use Rattle.checks.specs.Answer.{scratchFor}
+use Rattle.decompose.specs.Promise.{zeroed}
 use Rattle.decompose.proofs.Passes.{final, not-both}
 use borrow.Author.Needs.{needs}
 use Rattle.decompose.proofs.three_passes.Statement.{statement}
@@ -27,7 +28,7 @@ module _ (q : tie.After-corrected-series) where
   x = q .corrected-series .last .1 .1 .0
 
   room : n ≤ length (s .args .scratch .now)
-  room = omega (arith, s .pre .4)
+  room = omega (arith, s .pre .3 .long)
 
   same : length x ≡ length (take n (s .args .scratch .now))
   same = omega arith
@@ -46,11 +47,11 @@ slice-relend-prefix-corrected-series : tie.Need-slice-relend-prefix-corrected-se
 slice-relend-prefix-corrected-series c = search needs
 
 slice-aggregate-corrected-series : tie.Need-slice-aggregate-corrected-series
-slice-aggregate-corrected-series c = let s = c .before .before .before in front-long _ _ (omega (arith, s .pre .4))
+slice-aggregate-corrected-series c = let s = c .before .before .before in front-long _ _ (omega (arith, s .pre .3 .long))
 
 corrected-series-requires : tie.Need-corrected-series-requires
 corrected-series-requires c κs = let s = c .before .before .before .before .before .before .before .before .before in let n = length (s .args .figures .now) in
-    (s .pre .0, s .pre .1, sym (front-long n (s .args .scratch .now) (omega (arith, s .pre .4))), s .pre .2, s .pre .3)
+    (s .pre .0, s .pre .1, sym (front-long n (s .args .scratch .now) (omega (arith, s .pre .3 .long))), s .pre .2)
 
 enum-told : tie.Need-enum-told
 enum-told c = search needs
@@ -96,7 +97,7 @@ final-tables-requires c κs = let q = c .before .before .before .before .before 
     (final (s .pre .0) (back q), record { a-long = omega (arith, s .pre .1, g); b-long = omega (arith, s .pre .1, g); t-long = omega (arith, s .pre .1, g); s-long = omega (arith, s .pre .1, g) })
 
 clear-requires-2 : tie.Need-clear-requires-2
-clear-requires-2 c κs = let q = c .before .before .before .before .before .before .before .before .before .before .before .before .before .before .before .before .before .before .before .before .before .before in let s = q .before .before .before .before .before .before .before .before .before .before in (s .pre .0 .figures .short, omega (arith, kept q, s .pre .4))
+clear-requires-2 c κs = let q = c .before .before .before .before .before .before .before .before .before .before .before .before .before .before .before .before .before .before .before .before .before .before in let s = q .before .before .before .before .before .before .before .before .before .before in (s .pre .0 .figures .short, omega (arith, kept q, s .pre .3 .long))
 
 same-length-8 : tie.Need-same-length-8
 same-length-8 c = search needs
@@ -121,7 +122,7 @@ same-length-14 c = search needs
 
 returns-2 : tie.Need-returns-2
 returns-2 c = let g = c .before .before .before .before .before .before .before in let q = g .before .before .before .before .before .before .before .before .before .before .before .before .before .before .before .before .before in let s = q .before .before .before .before .before .before .before .before .before .before in let e = q .corrected-series .ensures in
-    (refl, rw (back q) at (g .final-tables .ensures), e .b17-is, e .c17-is, c .before .clear2 .ensures ∙ cleared q)
+    record { answered = refl; tables = rw (back q) at (g .final-tables .ensures); b17-is = e .b17-is; c17-is = e .c17-is; scratch-is = c .before .clear2 .ensures ∙ cleared q }
 
 pub three-passes-spec : {M : Type 1} → statement M
 three-passes-spec =

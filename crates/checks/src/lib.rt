@@ -1,0 +1,75 @@
+// Document 01, "Refusal sheet": rows 1 to 5 of decomposing.
+ghost use mathlib.Core.Path.{_≡_};
+ghost use Prim.Native.Nat.{_≤_};
+ghost use Rattle.refusals.specs.Limits.{mostMonths};
+ghost use Rattle.checks.specs.Answer.{fitting};
+ghost use Rattle.checks.specs.Contracts.{Checked};
+use refusals::Found;
+use refusals::Refusal;
+
+// How long the lent slices are.
+pub struct Lengths {
+    pub d10: usize,
+    pub d11: usize,
+    pub d12: usize,
+    pub d13: usize,
+    pub b17: usize,
+    pub c17: usize,
+    pub scratch: usize,
+}
+
+// Row 4: whether each lent slice has its length for n months.
+fn fitting(n: usize, lent: Lengths) -> bool
+    requires { ⌜ n ≤ mostMonths ⌝ }
+    ensures { λ r. ⌜ r ≡ fitting n lent ⌝ }
+{
+    if lent.d10 != n {
+        return false;
+    }
+    if lent.d11 != n {
+        return false;
+    }
+    if lent.d12 != n {
+        return false;
+    }
+    if lent.d13 != n {
+        return false;
+    }
+    if lent.b17 != n {
+        return false;
+    }
+    if lent.c17 != n {
+        return false;
+    }
+    8 * n <= lent.scratch
+}
+
+// None of rows 1 to 5 applies, or the first that does.
+pub enum Verdict {
+    Fine,
+    Refused(Refusal),
+}
+
+// The first of rows 1 to 5 that applies.
+pub fn first_refusal(figures: &[i32], start: u8, lent: Lengths) -> Verdict
+    ensures { λ r. ⌜ Checked r start (now (figures .entry)) lent ⌝ }
+{
+    let n = figures.len();
+    if n < refusals::LEAST_MONTHS {
+        return Verdict::Refused(Refusal::TooShort);
+    }
+    if refusals::MOST_MONTHS < n {
+        return Verdict::Refused(Refusal::TooLong);
+    }
+    if refusals::start_outside(start) {
+        return Verdict::Refused(Refusal::BadStart);
+    }
+    if fitting(n, lent) {
+        let found = refusals::first_outside(figures);
+        if let Found::At(t) = found {
+            return Verdict::Refused(Refusal::FigureOutside(t));
+        }
+        return Verdict::Fine;
+    }
+    Verdict::Refused(Refusal::WrongLength)
+}

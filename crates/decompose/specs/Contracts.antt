@@ -1,0 +1,81 @@
+-- What the functions below decomposing ask and leave. Nothing here is promised to a caller of the desk.
+use mathlib.Core.Path.{_≡_}
+use mathlib.Core.List.{List}
+use Prim.Native.Nat.{ℕ, _≤_}
+use lib.ListN.{length}
+use lib.IntN.{ℤ}
+use Rattle.integers.specs.Lists.{AllWithin}
+use Rattle.refusals.specs.Limits.{unit, leastMonths, monthsOfYear}
+use Rattle.series.specs.Operations.{minus, times}
+use Rattle.series.specs.Contracts.{Figures}
+use Rattle.filters.specs.Filter.{filter}
+use Rattle.steps.specs.Steps.{S2}
+use Rattle.extremes.specs.Weighing.{weightsOf, answerOf}
+use Rattle.extremes.specs.declared.Weighed.{Weighed}
+use Rattle.extremes.specs.declared.Weighed.the-variants.{Weights}
+use Rattle.tables.specs.Tables.{choicesD, finalTrend, irregularOf, corrections, B17, C17, D1}
+use Rattle.tables.specs.Bounds.{largestC1, largestD1}
+use Rattle.checks.specs.Answer.{scratchFor}
+use Rattle.checks.specs.Contracts.{Workable}
+use Rattle.decompose.specs.declared.Decomposed.{Decomposed}
+use Rattle.decompose.specs.declared.Decomposed.the-variants.{Tables}
+use Rattle.decompose.specs.Promise.{zeroed}
+
+-- the series that a pass is worked on to find extreme months: B1 or C1
+pub record Correctable (start : ℕ) (f x : List ℤ) : Type 0 where
+  pub workable : Workable start f
+  pub x-long : length x ≡ length f
+  pub x-small : AllWithin largestC1 x
+
+-- four slices to work in; those for both sets of weights; the scratch
+pub record WorkSlices (f a b t s : List ℤ) : Type 0 where
+  pub a-long : length a ≡ length f
+  pub b-long : length b ≡ length f
+  pub t-long : length t ≡ length f
+  pub s-long : length s ≡ length f
+
+pub record WeightSlices (f : List ℤ) (b17 c17 : List ℕ) : Type 0 where
+  pub b17-long : length b17 ≡ length f
+  pub c17-long : length c17 ≡ length f
+
+pub record Scratch (f scratch : List ℤ) : Type 0 where
+  pub long : scratchFor (length f) ≤ length scratch
+
+-- B1 less the corrections of an irregular by its weights: C1 of B13, D1 of C13
+unfoldable pub lessExtremes : ℕ → List ℤ → List ℤ → List ℤ
+lessExtremes start b1 irregular = minus b1 (corrections irregular (weightsOf start monthsOfYear irregular))
+
+-- what correcting extremes by a seasonal and a trend leaves
+pub record ExtremesCorrected (start : ℕ) (b1 s t : List ℤ) (r : Weighed) (x : List ℤ) (w : List ℕ) : Type 0 where
+  pub answered : r ≡ answerOf start monthsOfYear (irregularOf b1 s t)
+  pub series : x ≡ lessExtremes start b1 (irregularOf b1 s t)
+  pub weights : w ≡ weightsOf start monthsOfYear (irregularOf b1 s t)
+
+-- what the passes B and C leave: no group is ever emptied
+pub record Corrected (start : ℕ) (f : List ℤ) (r : Weighed) (x : List ℤ) (b17 c17 : List ℕ) : Type 0 where
+  pub answered : r ≡ Weights
+  pub series : x ≡ D1 start f
+  pub b17-is : b17 ≡ B17 start f
+  pub c17-is : c17 ≡ C17 start f
+
+-- what pass D takes: x is D1
+pub record Final (f x : List ℤ) : Type 0 where
+  pub figures : Figures f
+  pub long : leastMonths ≤ length f
+  pub x-long : length x ≡ length f
+  pub x-small : AllWithin largestD1 x
+
+-- what pass D on x leaves
+pub record Finished (b1 x d10 d11 d12 d13 : List ℤ) : Type 0 where
+  pub seasonal : d10 ≡ S2 choicesD x
+  pub adjusted : d11 ≡ minus b1 (S2 choicesD x)
+  pub trend : d12 ≡ filter (finalTrend .table) (minus x (S2 choicesD x))
+  pub irregular : d13 ≡ minus (minus b1 (S2 choicesD x)) (filter (finalTrend .table) (minus x (S2 choicesD x)))
+
+-- what the three passes leave
+pub record PassesDone (start : ℕ) (f : List ℤ) (r : Decomposed) (d10 d11 d12 d13 : List ℤ) (b17 c17 : List ℕ) (scratch₀ scratch : List ℤ) : Type 0 where
+  pub answered : r ≡ Tables
+  pub tables : Finished (times unit f) (D1 start f) d10 d11 d12 d13
+  pub b17-is : b17 ≡ B17 start f
+  pub c17-is : c17 ≡ C17 start f
+  pub scratch-is : scratch ≡ zeroed (length f) scratch₀

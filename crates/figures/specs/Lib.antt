@@ -1,0 +1,2 @@
+-- What the loops over the figures ask.
+pub mod Contracts

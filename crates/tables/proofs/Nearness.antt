@@ -1,0 +1,84 @@
+-- Demand 3: the results are near their exact working, and the parts add up; and each pass is near its own.
+use mathlib.Core.Path.{_≡_, refl}
+use mathlib.Core.List.{List}
+use Prim.Native.Nat.{ℕ, _+_, _<_}
+use native.Mathlib.Nat.{le-refl}
+use native.Mathlib.Omega.{arith}
+use lib.ListN.{length}
+use lib.IntN.{ℤ, _+ℤ_}
+use Rattle.integers.proofs.Differences.{rep, ringℤ}
+use Rattle.integers.specs.Lists.{_‼_}
+use Rattle.series.specs.Operations.{minus}
+use Rattle.series.specs.Distance.{Close}
+use Rattle.series.proofs.Distances.{close-self, close-times, close-minus, close-less}
+use Rattle.series.proofs.Lengths.{length-minus, at-minus}
+use Rattle.steps.specs.Steps.{S2}
+use Rattle.steps.specs.Exact.{overS2, exactS2}
+use Rattle.steps.proofs.Sound.{plain-sound}
+use Rattle.steps.proofs.Distances.{near, own-s2, close-norm}
+use Rattle.tables.specs.Tables.{choicesD, finalTrend, B1, D1, D10, D11, D12, D13}
+use Rattle.tables.specs.Exact.{overE, E10, E11, E12, E13}
+use Rattle.tables.specs.Nearness.{PassNear, NearAt}
+use Rattle.tables.proofs.Sizes.{length-b1}
+
+-- how far T2, S2, D12 and D13 are, in thousandths of a grain
+abbrev farT2 : ℕ
+farT2 = 3750
+
+abbrev farS2 : ℕ
+farS2 = 9000
+
+abbrev farD12 : ℕ
+farD12 = 12_200
+
+abbrev farD13 : ℕ
+farD13 = farS2 + farD12
+
+pub pass-near : (x : List ℤ) → PassNear x
+pass-near x = near plain-sound x farT2 (omega arith) _ _ (omega arith) (omega arith)
+
+-- seasonal, trend and irregular are the series
+adds : (b1 s t : List ℤ) (i : ℕ) → i < length b1 → (s ‼ i) +ℤ (t ‼ i) +ℤ (minus (minus b1 s) t ‼ i) ≡ b1 ‼ i
+adds b1 s t i h =
+    let l : i < length (minus b1 s) = omega (arith, length-minus b1 s) in
+    rw (at-minus (minus b1 s) t i l, at-minus b1 s i h) (rw (rep (b1 ‼ i), rep (s ‼ i), rep (t ‼ i)) (simp ringℤ (omega arith)))
+
+module _ (start : ℕ) (f : List ℤ) where
+  abbrev b1 : List ℤ
+  b1 = B1 start f
+
+  abbrev d1 : List ℤ
+  d1 = D1 start f
+
+  s2 : Close farS2 (overS2 choicesD) (S2 choicesD d1) (exactS2 choicesD d1)
+  s2 = own-s2 plain-sound d1 farT2 (omega arith)
+
+  d10 : Close farS2 overE (D10 start f) (E10 b1 d1)
+  unfolding D10 E10
+  d10 = close-times (finalTrend .over) s2
+
+  d11 : Close farS2 overE (D11 start f) (E11 b1 d1)
+  unfolding D11 E11
+  d11 = close-less overE (close-self b1) d10 (le-refl farS2) refl
+
+  d12 : Close farD12 overE (D12 start f) (E12 b1 d1)
+  unfolding D12 D10 E12
+  d12 = close-norm (close-less (overS2 choicesD) (close-self d1) s2 (le-refl farS2) refl) finalTrend 1300 farD12 (plain-sound .trend-norm) (omega arith)
+
+  d13 : Close farD13 overE (D13 start f) (E13 b1 d1)
+  unfolding D13 E13
+  d13 = close-minus d11 d12
+
+  adds-up : (t : ℕ) → t < length b1 → (D10 start f ‼ t) +ℤ (D12 start f ‼ t) +ℤ (D13 start f ‼ t) ≡ b1 ‼ t
+  unfolding D13 D11
+  adds-up t h = adds b1 (D10 start f) (D12 start f) t h
+
+  -- the tables of the rules, at each month
+  pub near-at : (t : ℕ) → t < length f → NearAt b1 d1 (D10 start f) (D11 start f) (D12 start f) (D13 start f) t
+  near-at t h = record {
+    seasonal = omega (arith, d10 .close t);
+    adjusted = omega (arith, d11 .close t);
+    trend = omega (arith, d12 .close t);
+    irregular = omega (arith, d13 .close t);
+    adds-up = adds-up t (omega (arith, length-b1 start f));
+  }

@@ -1,0 +1,5 @@
+-- Document 01, "Three passes": the tables, the exact working of the results, and how near the two are. Bounds has how large the tables can be.
+pub mod Tables
+pub mod Exact
+pub mod Nearness
+pub mod Bounds
