@@ -10,27 +10,28 @@ use Rattle.integers.specs.Lists.{_‼_}
 use Rattle.refusals.specs.declared.Found.the-variants.{Nowhere}
 use Rattle.refusals.specs.Limits.{largestFigure}
 use Rattle.refusals.specs.First.{firstOutside, firstAbove}
-use Rattle.refusals.specs.FirstLaws.{all-passed}
-use Rattle.refusals.specs.InsideLaws.{start-inside, figure-inside, weight-inside}
+use Rattle.refusals.proofs.FirstLaws.{all-passed}
+use Rattle.refusals.proofs.InsideLaws.{start-inside, figure-inside, weight-inside}
 use Rattle.refusals.specs.Sheet.{success}
+use Rattle.little_endian.specs.Bytes.{AreBytes, FourBytes}
 use Rattle.desk_file.specs.declared.Reading.{Reading}
 use Rattle.desk_file.specs.declared.Writing.{Writing}
 use Rattle.desk_file.specs.File.{SeriesWithWeights, series, fileBytes, seriesIn}
 use Rattle.desk_file.specs.ReadFile.{Accepted, accepted, readSays, readAnswer, ReadDone}
 use Rattle.desk_file.specs.WriteFile.{writeSays, writeAnswer, WriteDone}
-use Rattle.desk_file.specs.RoundTrips.{AreBytes, FourBytes, Storable, ReadAgain, WrittenAgain}
-use Rattle.desk_file.proofs.Arrays.{file-length, series-months, series-start, series-whole}
-use Rattle.desk_file.proofs.ReadAnswers.{Readable, readable, reads}
-use Rattle.desk_file.proofs.WriteAnswers.{Writable, writable, writes}
-use Rattle.desk_file.proofs.Decoding.{count-back, start-back, period-back, file-back, meaning-back}
+use Rattle.desk_file.specs.RoundTrips.{Storable, ReadAgain, WrittenAgain}
+use Rattle.desk_file.proofs.FileLaws.{file-length, series-months, series-start, series-whole}
+use Rattle.desk_file.proofs.ReadAnswers.{AcceptedFile, accepted-file, accepts-file}
+use Rattle.desk_file.proofs.WriteAnswers.{AcceptedSeries, accepted-series, accepts-series}
+use Rattle.desk_file.proofs.Decoding.{count-back, start-back, period-back, file-back, file-again}
 
 -- the bytes of what an accepted byte string means are that byte string
 meant : (file : List ℕ) (nf nw : ℕ) (a : Accepted) → AreBytes file → readAnswer file nf nw ≡ success a → fileBytes (seriesIn file) ≡ file
 meant file nf nw a b h =
-    let ok = readable file nf nw (a .count) (a .start) h in
-    meaning-back file b (a .count) (ok .count) (ok .period) (ok .size)
+    let ok = accepted-file file nf nw (a .count) (a .start) h in
+    file-again file b (a .count) (ok .count) (ok .period) (ok .size)
 
--- "There is one byte string for each series with weights": two accepted byte strings that mean the same are the same
+-- one byte string for each series with weights: two accepted byte strings that mean the same are the same
 pub one-file : (file file′ : List ℕ) (figuresRoom weightsRoom figuresRoom′ weightsRoom′ : ℕ) (a a′ : Accepted)
     → AreBytes file
     → AreBytes file′
@@ -52,7 +53,7 @@ fits (negsuc k) h = omega arith
 pub storable : (s : SeriesWithWeights) (room k : ℕ) → writeAnswer s room ≡ success k → Storable s
 unfolding firstOutside firstAbove
 storable s room k e =
-    let w = writable s room k e in
+    let w = accepted-series s room k e in
     record {
       count = omega (arith, w .most);
       start = omega (arith, start-inside (s .start) (w .startFits) .1);
@@ -71,14 +72,14 @@ pub read-again : (s : SeriesWithWeights) (out₀ out : List ℕ) (q : Writing) (
     → ReadAgain s figures₀ weights₀ r figures weights
 read-again s out₀ out q k figures₀ figures weights₀ weights r d ha hf hw e =
     let written : writeAnswer s (length out₀) ≡ success k = sym (d .answer) ∙ ha in
-    let w = writable s (length out₀) k written in
+    let w = accepted-series s (length out₀) k written in
     let a = storable s (length out₀) k written in
     let same : out ≡ fileBytes s ++ drop k out₀ = rw written at (d .outLeft) in
     let file : take k out ≡ fileBytes s = ap (take k) same ∙ take-at (fileBytes s) (drop k out₀) k (file-length s (w .same) ∙ sym (w .long)) in
     let e′ = subst (λ (f : List ℕ). ReadDone f figures₀ weights₀ r figures weights) file e in
     let figuresFit : firstOutside (seriesIn (fileBytes s) .figures) ≡ Nowhere = rw (file-back s a) (w .figuresFit) in
     let weightsFit : firstAbove (seriesIn (fileBytes s) .weights) ≡ Nowhere = rw (file-back s a) (w .weightsFit) in
-    let ok : Readable (fileBytes s) (length figures₀) (length weights₀) (length (s .figures)) (s .start) = record {
+    let ok : AcceptedFile (fileBytes s) (length figures₀) (length weights₀) (length (s .figures)) (s .start) = record {
       count = sym (count-back s a);
       begins = sym (start-back s a);
       least = w .least;
@@ -91,7 +92,7 @@ read-again s out₀ out q k figures₀ figures weights₀ weights r d ha hf hw e
       figuresFit = figuresFit;
       weightsFit = weightsFit;
     } in
-    let answer = sym (reads ok) in
+    let answer = sym (accepts-file ok) in
     record {
       answer = e′ .answer ∙ answer;
       figuresLeft = rw (answer, file-back s a) at (e′ .figuresLeft);
@@ -108,7 +109,7 @@ pub write-again : (file : List ℕ) (figures₀ figures : List ℤ) (weights₀ 
     → WrittenAgain file out₀ r out
 write-again file figures₀ figures weights₀ weights q n start out₀ out r b d ha room e =
     let told : readAnswer file (length figures₀) (length weights₀) ≡ accepted n start = sym (d .answer) ∙ ha in
-    let ok = readable file (length figures₀) (length weights₀) n start told in
+    let ok = accepted-file file (length figures₀) (length weights₀) n start told in
     let f = seriesIn file .figures in
     let w = seriesIn file .weights in
     let nf : length f ≡ n = series-months file n (sym (ok .count)) .0 in
@@ -118,7 +119,7 @@ write-again file figures₀ figures weights₀ weights q n start out₀ out r b 
     let s : series start (take n figures) (take n weights) ≡ seriesIn file =
     rw (figuresLeft, weightsLeft, take-at f (drop n figures₀) n nf, take-at w (drop n weights₀) n nw, ok .begins) (sym (series-whole file)) in
     let e′ = subst (λ (s : SeriesWithWeights). WriteDone s out₀ r out) s e in
-    let fine : Writable (seriesIn file) (length out₀) (length file) = record {
+    let fine : AcceptedSeries (seriesIn file) (length out₀) (length file) = record {
       long = rw nf (ok .size);
       least = rw nf (ok .least);
       most = rw nf (ok .most);
@@ -128,7 +129,7 @@ write-again file figures₀ figures weights₀ weights q n start out₀ out r b 
       figuresFit = ok .figuresFit;
       weightsFit = ok .weightsFit;
     } in
-    let answer = sym (writes fine) in
+    let answer = sym (accepts-series fine) in
     record {
       answer = e′ .answer ∙ answer;
       outLeft = rw (answer, meant file (length figures₀) (length weights₀) _ b told) at (e′ .outLeft);

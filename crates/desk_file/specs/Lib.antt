@@ -1,6 +1,5 @@
--- The crate's root: numbers in bytes (Bytes), the desk file (File), what reading and writing promise (ReadFile, WriteFile),
+-- The crate's root: the desk file (File), what reading and writing promise (ReadFile, WriteFile),
 -- and the words of the theorems on both together (RoundTrips).
-pub mod Bytes
 pub mod File
 pub mod ReadFile
 pub mod WriteFile

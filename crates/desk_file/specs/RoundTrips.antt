@@ -1,4 +1,4 @@
--- This file holds the words used in the theorems of proofs/RoundTrip.antt, which say:
+-- The words of the theorems of proofs/RoundTrip.antt:
 -- read-again: what `write` wrote, `read` reads again, and it is the same series with weights.
 -- write-again: what `read` accepted, `write` writes again, and it is the same byte string.
 -- same-bytes: two series with weights that can be stored and have the same bytes are the same.
@@ -6,26 +6,18 @@
 use Prim.Native.Nat.{ℕ, _^_, _<_}
 use mathlib.Core.Path.{_≡_}
 use mathlib.Core.List.{List, _++_}
-use lib.IntN.{ℤ, pos, negsuc}
+use lib.IntN.{ℤ}
 use lib.ListN.{length, getD, drop}
 use Rattle.integers.specs.Lists.{_‼_}
 use Rattle.refusals.specs.Sheet.{success}
+use Rattle.little_endian.specs.Bytes.{FourBytes}
 use Rattle.desk_file.specs.declared.Reading.{Reading}
 use Rattle.desk_file.specs.declared.Writing.{Writing}
 use Rattle.desk_file.specs.File.{SeriesWithWeights}
 use Rattle.desk_file.specs.ReadFile.{accepted, readSays}
 use Rattle.desk_file.specs.WriteFile.{writeSays}
 
--- a byte string: every element is below 256
-pub record AreBytes (file : List ℕ) : Type 0 where
-  pub each : (i : ℕ) → i < length file → getD file i 0 < 256
-
--- what "signed 4 bytes" hold: from -2 ^ 31 to 2 ^ 31 - 1 (`negsuc k` is the number -1 - k)
-abbrev pub FourBytes : ℤ → Type 0
-FourBytes (pos n) = n < 2 ^ 31
-FourBytes (negsuc k) = k < 2 ^ 31
-
--- what the fields of a file can hold: a count of 2 bytes, a start month of 1, figures of signed 4, weights of 2, and as many weights as figures
+-- what the fields of a file can hold: a count of 2 bytes, a start month of 1, signed figures of 4, weights of 2; as many weights as figures
 pub record Storable (s : SeriesWithWeights) : Type 0 where
   pub count : length (s .figures) < 2 ^ 16
   pub start : s .start < 2 ^ 8
@@ -33,7 +25,7 @@ pub record Storable (s : SeriesWithWeights) : Type 0 where
   pub figuresFit : (t : ℕ) → t < length (s .figures) → FourBytes (s .figures ‼ t)
   pub weightsFit : (t : ℕ) → t < length (s .weights) → getD (s .weights) t 0 < 2 ^ 16
 
--- reading gave this series with weights: its length and start month, its figures and weights in the first places of the slices, the rest as before
+-- reading gave this series: its length and start month, its figures and weights in the first places of the slices, the rest as before
 pub record ReadAgain (s : SeriesWithWeights) (figures₀ : List ℤ) (weights₀ : List ℕ) (r : Reading) (figures : List ℤ) (weights : List ℕ) : Type 0 where
   pub answer : readSays r ≡ accepted (length (s .figures)) (s .start)
   pub figuresLeft : figures ≡ s .figures ++ drop (length (s .figures)) figures₀

@@ -1,0 +1,2 @@
+-- Numbers, signed numbers and arrays of them as bytes, low byte first (Bytes). The laws are in proofs/.
+pub mod Bytes
