@@ -5,9 +5,8 @@ use Prim.Native.Nat.{ℕ, _<_}
 use lib.ListN.{length}
 use lib.IntN.{ℤ}
 use Rattle.refusals.specs.Sheet.{Answer, success, refusal}
-use Rattle.pass.specs.Passed.{PassNear}
-use Rattle.decompose.specs.Tables.{B1, C1, D1}
-use Rattle.decompose.specs.Exact.{NearAt}
+use Rattle.tables.specs.Tables.{B1, C1, D1}
+use Rattle.tables.specs.Nearness.{PassNear, NearAt}
 use Rattle.decompose.specs.Promise.{Slices, answer, after}
 use Rattle.desk_file.specs.File.{SeriesWithWeights}
 use Rattle.desk_file.specs.ReadFile.{Accepted, readAnswer, figuresAfter, weightsAfter}

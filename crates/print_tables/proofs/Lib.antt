@@ -1,6 +1,3 @@
--- Laws that the proofs share, worked examples, and what holds of an input that is longer than a desk file.
-pub mod Decimals
-pub mod LineLaws
-pub mod PrintLaws
-pub mod Examples
+-- Laws that the proofs share, and what holds of an input that is longer than a desk file.
+mod PrintLaws
 pub mod LongFiles

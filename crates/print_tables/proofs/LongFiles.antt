@@ -8,10 +8,10 @@ use borrow.Author.Tests.{le-ltb, ltb-false, ne-eqb}
 use lib.Dec.{ltb, eqb}
 use lib.ListN.{length, take}
 use lib.Seq.{getD-take, length-take-le}
-use Rattle.refusals.specs.Limits.{leastMonths, mostMonths, year}
+use Rattle.refusals.specs.Limits.{leastMonths, mostMonths, monthsOfYear}
 use Rattle.refusals.specs.Inside.{startInside}
 use Rattle.refusals.specs.Sheet.{Answer, refusal}
-use Rattle.desk_file.specs.Bytes.{numberAt}
+use Rattle.little_endian.specs.Bytes.{numberAt}
 use Rattle.desk_file.specs.File.{headerLength, fileLength, countIn, startIn, periodIn}
 use Rattle.desk_file.specs.ReadFile.{Accepted, readAnswer}
 use Rattle.print_tables.specs.Printed.{readText, printed}
@@ -21,7 +21,7 @@ abbrev refusedBy : Bool → Bool → Bool → Bool → Answer Accepted
 refusedBy few many start period = cond few (refusal 1 0) (cond many (refusal 2 0) (cond start (refusal 3 0) (cond period (refusal 8 0) (refusal 9 0))))
 
 abbrev bySizes : List ℕ → Answer Accepted
-bySizes file = refusedBy (ltb (countIn file) leastMonths) (ltb mostMonths (countIn file)) (not (startInside (startIn file))) (not (eqb (periodIn file) year))
+bySizes file = refusedBy (ltb (countIn file) leastMonths) (ltb mostMonths (countIn file)) (not (startInside (startIn file))) (not (eqb (periodIn file) monthsOfYear))
 
 refused-long : (file : List ℕ) → fileLength mostMonths < length file → readAnswer file mostMonths mostMonths ≡ bySizes file
 unfolding readAnswer
@@ -53,5 +53,5 @@ read-enough file h =
     let same : readAnswer part mostMonths mostMonths ≡ readAnswer file mostMonths mostMonths =
     refused-long part (omega arith) ∙ sizes-read file (fileLength mostMonths + 1) (omega arith) ∙ sym (refused-long file h) in
     ap (λ (a : Answer Accepted). readText a part) (same ∙ refused-long file h)
-    ∙ text-of (ltb (countIn file) leastMonths) (ltb mostMonths (countIn file)) (not (startInside (startIn file))) (not (eqb (periodIn file) year)) part file
+    ∙ text-of (ltb (countIn file) leastMonths) (ltb mostMonths (countIn file)) (not (startInside (startIn file))) (not (eqb (periodIn file) monthsOfYear)) part file
     ∙ ap (λ (a : Answer Accepted). readText a file) (sym (refused-long file h))

@@ -5,7 +5,8 @@ use mathlib.Core.List.{List, _++_}
 use native.Mathlib.Omega.{arith}
 use lib.IntN.{ℤ}
 use lib.ListN.{length, take, drop, length-take}
-use lib.Seq.{take-at}
+use lib.Seq.{length-take-le, take-at}
+use Rattle.integers.proofs.Fronts.{front-kept}
 use Rattle.refusals.specs.declared.Refusal.{Refusal}
 use Rattle.refusals.specs.Limits.{mostMonths}
 use Rattle.refusals.specs.Sheet.{Answer, success, row}
@@ -13,37 +14,42 @@ use Rattle.desk_file.specs.declared.Reading.{Reading}
 use Rattle.desk_file.specs.declared.Reading.the-variants.{Series, Refused as NotRead}
 use Rattle.desk_file.specs.File.{seriesIn}
 use Rattle.desk_file.specs.ReadFile.{Accepted, accepted, readSays, readAnswer, ReadDone}
-use Rattle.desk_file.proofs.Arrays.{series-months}
-use Rattle.desk_file.proofs.ReadAnswers.{readable}
+use Rattle.desk_file.proofs.FileLaws.{series-months}
+use Rattle.desk_file.proofs.ReadAnswers.{accepted-file}
 use Rattle.decompose.specs.declared.Decomposed.{Decomposed}
 use Rattle.decompose.specs.declared.Decomposed.the-variants.{Tables, Refused}
-use Rattle.decompose.specs.Promise.{Slices, Promise, answer, after, says, lengthsOf, scratchFor}
-use Rattle.print_tables.specs.Text.{Beside, refusedLine, tablesText}
-use Rattle.print_tables.specs.Printed.{lentFor, seriesAnswer, decomposedText, seriesText, unreadText, readText, printed}
+use Rattle.decompose.specs.Promise.{Slices, Promise, answer, after, says, lengthsOf}
+use Rattle.checks.specs.Answer.{scratchFor}
+use Rattle.print_lines.specs.Text.{refusedLine, tablesText}
+use Rattle.print_tables.specs.Printed.{lentFor, seriesAnswer, tablesOf, decomposedText, seriesText, unreadText, readText, printed}
+
+-- the front of an array still has room after it was lent
+pub front-room : {A : Type 0} (k : ℕ) (l : List A) → k ≤ length l → (m : List A) → length m ≡ length (take k l) → k ≤ length (m ++ drop k l)
+front-room k l h m e = omega (arith, front-kept k l h m e)
 
 -- ---- decomposing
--- the slices lent for a series
-pub record Lent (figures : List ℤ) (lent : Slices) : Type 0 where
-  pub tables : Beside figures (lent .d10) (lent .d11) (lent .d12) (lent .d13) (lent .c17)
-  pub in-b17 : length (lent .b17) ≡ length figures
-  pub in-scratch : length (lent .scratch) ≡ scratchFor mostMonths
+-- the slices that are lent: the fronts of arrays
+abbrev frontsOf : ℕ → List ℤ → List ℕ → List ℤ → Slices
+frontsOf n x w scratch = record { d10 = take n x; d11 = take n x; d12 = take n x; d13 = take n x; b17 = take n w; c17 = take n w; scratch = scratch }
 
-lengths-lent : (figures : List ℤ) (lent : Slices) → Lent figures lent → lengthsOf lent ≡ lentFor (length figures)
+pub fronts-lent : (n : ℕ) (x : List ℤ) (w : List ℕ) (scratch : List ℤ) → n ≤ length x → n ≤ length w → length scratch ≡ scratchFor mostMonths → lengthsOf (frontsOf n x w scratch) ≡ lentFor n
 unfolding lengthsOf
-lengths-lent figures lent h = rw (h .tables .in10, h .tables .in11, h .tables .in12, h .tables .in13, h .in-b17, h .tables .in17, h .in-scratch)
+fronts-lent n x w scratch h g e = rw (length-take-le n x h, length-take-le n w g, e)
 
-module _ {start : ℕ} {figures : List ℤ} {lent left : Slices} {r : Decomposed} (p : Promise start figures lent r left) (h : Lent figures lent) where
+module _ {start : ℕ} {figures : List ℤ} {lent left : Slices} {r : Decomposed} (p : Promise start figures lent r left) (h : lengthsOf lent ≡ lentFor (length figures)) where
   says-answer : says r ≡ seriesAnswer start figures
   unfolding answer seriesAnswer
-  says-answer = rw (lengths-lent figures lent h) at (p .answered)
+  says-answer = rw h at (p .answered)
 
-  pub tables-printed : r ≡ Tables → tablesText figures (left .d10) (left .d11) (left .d12) (left .d13) (left .c17) start ≡ seriesText start figures
-  unfolding seriesText decomposedText after
-  tables-printed e =
+  pub tables-printed : r ≡ Tables → {a b c d : List ℤ} {w : List ℕ} → a ≡ left .d10 → b ≡ left .d11 → c ≡ left .d12 → d ≡ left .d13 → w ≡ left .c17
+      → tablesText (record { figures = figures; d10 = a; d11 = b; d12 = c; d13 = d; c17 = w }) start ≡ seriesText start figures
+  unfolding seriesText decomposedText tablesOf after
+  tables-printed e i j k l m =
       let done : answer start figures lent ≡ success tt = sym (p .answered) ∙ ap says e in
       let tables : left ≡ after (success tt) start figures lent = p .slices ∙ ap (λ (a : Answer Unit). after a start figures lent) done in
-      ap (λ (s : Slices). tablesText figures (s .d10) (s .d11) (s .d12) (s .d13) (s .c17) start) tables
-      ∙ ap (λ (a : Answer Unit). decomposedText a start figures) (sym (ap says e) ∙ says-answer)
+      rw (i, j, k, l, m)
+      (ap (λ (s : Slices). tablesText (record { figures = figures; d10 = s .d10; d11 = s .d11; d12 = s .d12; d13 = s .d13; c17 = s .c17 }) start) tables
+      ∙ ap (λ (a : Answer Unit). decomposedText a start figures) (sym (ap says e) ∙ says-answer))
 
   pub refusal-printed : (q : Refusal) → r ≡ Refused q → refusedLine (row q .number) (row q .place) ≡ seriesText start figures
   unfolding seriesText decomposedText
@@ -64,10 +70,10 @@ module _ {file : List ℕ} {figures₀ figures : List ℤ} {weights₀ weights :
     told = sym (p .answer) ∙ ap readSays e
 
     pub months-fit : n ≤ mostMonths
-    months-fit = readable file (length figures₀) (length weights₀) n start told .most
+    months-fit = accepted-file file (length figures₀) (length weights₀) n start told .most
 
     long : length (seriesIn file .figures) ≡ n
-    long = series-months file n (sym (readable file (length figures₀) (length weights₀) n start told .count)) .0
+    long = series-months file n (sym (accepted-file file (length figures₀) (length weights₀) n start told .count)) .0
 
     figures-read : take n figures ≡ seriesIn file .figures
     figures-read =

@@ -7,10 +7,10 @@ use Rattle.refusals.specs.Limits.{mostMonths}
 use Rattle.refusals.specs.Sheet.{Answer, success, refusal}
 use Rattle.desk_file.specs.File.{seriesIn}
 use Rattle.desk_file.specs.ReadFile.{Accepted, readAnswer}
-use Rattle.decompose.specs.declared.Lengths.{Lengths}
-use Rattle.decompose.specs.Tables.{C17, D10, D11, D12, D13}
-use Rattle.decompose.specs.Promise.{answerFor, scratchFor}
-use Rattle.print_tables.specs.Text.{refusedLine, tablesText}
+use Rattle.checks.specs.declared.Lengths.{Lengths}
+use Rattle.tables.specs.Tables.{C17, D10, D11, D12, D13}
+use Rattle.checks.specs.Answer.{answerFor, scratchFor}
+use Rattle.print_lines.specs.Text.{refusedLine, SeriesTables, tablesText}
 
 -- the slices lent for n months: each n long, the scratch long enough for the longest series
 abbrev pub lentFor : ℕ → Lengths
@@ -20,9 +20,21 @@ lentFor n = record { d10 = n; d11 = n; d12 = n; d13 = n; b17 = n; c17 = n; scrat
 unfoldable pub seriesAnswer : ℕ → List ℤ → Answer Unit
 seriesAnswer start figures = answerFor start figures (lentFor (length figures))
 
+-- the tables of a series
+unfoldable pub tablesOf : ℕ → List ℤ → SeriesTables
+tablesOf start figures =
+    record {
+      figures = figures;
+      d10 = D10 start figures;
+      d11 = D11 start figures;
+      d12 = D12 start figures;
+      d13 = D13 start figures;
+      c17 = C17 start figures;
+    }
+
 -- "a refusal, decomposing's too, prints `refused`, number and place on one line, and nothing else"
 unfoldable pub decomposedText : Answer Unit → ℕ → List ℤ → List ℕ
-decomposedText (success _) start figures = tablesText figures (D10 start figures) (D11 start figures) (D12 start figures) (D13 start figures) (C17 start figures) start
+decomposedText (success _) start figures = tablesText (tablesOf start figures) start
 decomposedText (refusal number place) start figures = refusedLine number place
 
 unfoldable pub seriesText : ℕ → List ℤ → List ℕ

@@ -2,7 +2,7 @@
 -- Assumes nothing.
 use mathlib.Core.Path.{refl, sym}
 use native.Mathlib.Omega.{arith}
-use Rattle.print_tables.specs.Storing.{stored-eq}
+use Rattle.decimals.proofs.StoringLaws.{stored-eq}
 use Rattle.print_tables.proofs.PrintLaws.{unread-printed, figures-room, months-fit, months-read, series-printed}
 use borrow.Author.Needs.{needs}
 use Rattle.print_tables.proofs.put_file.Statement.{statement}

@@ -5,7 +5,7 @@ use native.Mathlib.Omega.{arith}
 use Rattle.desk_file.specs.declared.Reading.{Reading}
 use Rattle.desk_file.specs.ReadFile.{readSays}
 use Rattle.print_tables.specs.Printed.{unreadText}
-use Rattle.print_tables.specs.Storing.{stored-as, stored-eq, stored-within}
+use Rattle.decimals.proofs.StoringLaws.{stored-as, stored-eq, stored-within}
 use borrow.Author.Needs.{needs}
 use Rattle.print_tables.proofs.put_unread.Statement.{statement}
 use Rattle.print_tables.proofs.put_unread.Tie as tie

@@ -1,8 +1,8 @@
 -- `print_tables::run_on` meets its contract: what was read and what was stored lies in the arrays.
 -- Assumes nothing.
-use mathlib.Core.Path.{sym}
-use lib.Seq.{length-take-le}
 use borrow.Author.Needs.{needs}
+use Rattle.integers.proofs.Fronts.{front-long}
+use Rattle.decimals.proofs.StoringLaws.{stored-inside}
 use Rattle.print_tables.proofs.run_on.Statement.{statement}
 use Rattle.print_tables.proofs.run_on.Tie as tie
 
@@ -25,10 +25,10 @@ put-file-requires : tie.Need-put-file-requires
 put-file-requires c κs = search needs
 
 array-share-prefix-out : tie.Need-array-share-prefix-out
-array-share-prefix-out c = search needs
+array-share-prefix-out c = stored-inside (c .before .put-file .ensures) (search needs)
 
 slice-aggregate-write-all : tie.Need-slice-aggregate-write-all
-slice-aggregate-write-all c = sym (length-take-le _ _ (search needs))
+slice-aggregate-write-all c = front-long _ _ (array-share-prefix-out (c .before))
 
 write-all-requires : tie.Need-write-all-requires
 write-all-requires c κs = search needs

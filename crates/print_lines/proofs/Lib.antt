@@ -1,0 +1,3 @@
+-- Laws that the proofs share, and worked examples.
+mod LineLaws
+mod Examples

@@ -1,0 +1,2 @@
+-- The crate's root.
+pub mod Text
