@@ -1,4 +1,4 @@
-//! Rows 1 to 5 of the refusal sheet, for the programs beside ours.
+//! Rows 1 to 5 of the refusal sheet, for the plain program.
 
 use crate::Answer;
 

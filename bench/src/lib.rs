@@ -1,27 +1,25 @@
-//! Four programs for the same rules: the proved one, a plain integer one, that one tuned by hand, and one in doubles.
+//! Two programs for the same rules: the proved one and a plain integer one.
 
 pub mod checks;
-pub mod double;
 pub mod ours;
 pub mod plain;
 pub mod series;
-pub mod tuned;
 
-/// The slices that are lent to decomposing: tables and scratch of V, weights of W.
+/// The slices that are lent to decomposing.
 #[derive(Clone, Debug, PartialEq)]
-pub struct Lent<V, W> {
-    pub d10: Vec<V>,
-    pub d11: Vec<V>,
-    pub d12: Vec<V>,
-    pub d13: Vec<V>,
-    pub b17: Vec<W>,
-    pub c17: Vec<W>,
-    pub scratch: Vec<V>,
+pub struct Lent {
+    pub d10: Vec<i64>,
+    pub d11: Vec<i64>,
+    pub d12: Vec<i64>,
+    pub d13: Vec<i64>,
+    pub b17: Vec<u16>,
+    pub c17: Vec<u16>,
+    pub scratch: Vec<i64>,
 }
 
-impl<V: Copy, W: Copy> Lent<V, W> {
+impl Lent {
     /// Slices for n months, every entry as given.
-    pub fn new(n: usize, value: V, weight: W) -> Lent<V, W> {
+    pub fn new(n: usize, value: i64, weight: u16) -> Lent {
         let table = vec![value; n];
         let weights = vec![weight; n];
         Lent {
@@ -36,7 +34,7 @@ impl<V: Copy, W: Copy> Lent<V, W> {
     }
 
     /// Every entry as given.
-    pub fn fill(&mut self, value: V, weight: W) {
+    pub fn fill(&mut self, value: i64, weight: u16) {
         for table in [&mut self.d10, &mut self.d11, &mut self.d12, &mut self.d13, &mut self.scratch] {
             table.fill(value);
         }

@@ -1,13 +1,13 @@
-//! How long decomposing takes: the proved program beside a plain integer one, that one tuned by hand, and one in doubles, on the same series.
+//! How long decomposing takes: the proved program beside a plain integer one, on the same series.
 //!
 //!     bench                      the times, as tables for Markdown
-//!     bench count PROGRAM N      works the series of N months once with ours, plain, tuned or double, for counting instructions
+//!     bench count PROGRAM N      works the series of N months once with ours or plain, for counting instructions
 //!
-//! A round takes each length in turn, and for each length ours, plain, tuned and double. All lent slices are cleared before each call,
+//! A round takes each length in turn, and for each length ours and plain. All lent slices are cleared before each call,
 //! outside the timed part; each call is timed by itself, and a round gives the median of its calls. Of the rounds the median
 //! is taken, also of the ratios, which compare times of the same round.
 
-use bench::{double, ours, plain, series, series::Series, tuned, Answer, Lent};
+use bench::{ours, plain, series, series::Series, Answer, Lent};
 use std::hint::black_box;
 use std::time::Instant;
 
@@ -27,28 +27,26 @@ fn inputs(n: usize) -> Vec<Series> {
         .collect()
 }
 
-/// Ends the program where ours, plain and tuned differ on some input.
+/// Ends the program where ours and plain differ on some input.
 fn check_agreement(inputs: &[Series]) {
     for (k, Series { start, figures }) in inputs.iter().enumerate() {
-        let left = [ours::decompose, plain::decompose, tuned::decompose].map(|decompose| {
+        let left = [ours::decompose, plain::decompose].map(|decompose| {
             let mut lent = Lent::new(figures.len(), 7, 7);
             (decompose(figures, *start, &mut lent), lent)
         });
-        if left[0].0 != (0, 0) || left[1] != left[0] || left[2] != left[0] {
-            eprintln!("series {k} of {} months: ours, plain and tuned differ, so no times are taken", figures.len());
+        if left[0].0 != (0, 0) || left[1] != left[0] {
+            eprintln!("series {k} of {} months: ours and plain differ, so no times are taken", figures.len());
             std::process::exit(1);
         }
     }
 }
 
 /// Nanoseconds of a call, the median over all inputs so many times.
-fn time<V: Copy, W: Copy>(
-    inputs: &[Series], times: usize, work: fn(&[i32], u8, &mut Lent<V, W>) -> Answer, lent: &mut Lent<V, W>, zero: (V, W),
-) -> f64 {
+fn time(inputs: &[Series], times: usize, work: fn(&[i32], u8, &mut Lent) -> Answer, lent: &mut Lent) -> f64 {
     let mut calls = Vec::with_capacity(times * inputs.len());
     for _ in 0..times {
         for Series { start, figures } in inputs {
-            lent.fill(zero.0, zero.1);
+            lent.fill(0, 0);
             let (figures, start, lent) = black_box((figures, *start, &mut *lent));
             let begun = Instant::now();
             black_box(work(figures, start, lent));
@@ -58,24 +56,19 @@ fn time<V: Copy, W: Copy>(
     percentile(calls.into_iter(), 50)
 }
 
-/// The series of one length with the times of all rounds, each of ours, plain, tuned and double.
+/// The series of one length with the times of all rounds, each of ours and plain.
 struct Length {
     n: usize,
     inputs: Vec<Series>,
-    rounds: Vec<[f64; 4]>,
+    rounds: Vec<[f64; 2]>,
 }
 
 /// One round at one length.
 fn measure(length: &mut Length) {
     let Length { n, inputs, rounds } = length;
     let times = MONTHS_A_ROUND / (*n * inputs.len());
-    let (mut whole, mut doubles) = (Lent::new(*n, 0, 0), Lent::new(*n, 0.0, 0.0));
-    rounds.push([
-        time(inputs, times, ours::decompose, &mut whole, (0, 0)),
-        time(inputs, times, plain::decompose, &mut whole, (0, 0)),
-        time(inputs, times, tuned::decompose, &mut whole, (0, 0)),
-        time(inputs, times, double::decompose, &mut doubles, (0.0, 0.0)),
-    ]);
+    let mut lent = Lent::new(*n, 0, 0);
+    rounds.push([time(inputs, times, ours::decompose, &mut lent), time(inputs, times, plain::decompose, &mut lent)]);
 }
 
 /// What the clock itself takes, a median.
@@ -92,18 +85,18 @@ fn percentile(values: impl Iterator<Item = f64>, percent: usize) -> f64 {
 
 fn print_tables(lengths: &[Length]) {
     println!("Nanoseconds for a series, median of {ROUNDS} rounds (10th to 90th percentile):\n");
-    println!("| months | ours | plain | tuned | double | ours / plain | ours / tuned | ours / double |");
-    println!("|---:|---:|---:|---:|---:|---:|---:|---:|");
+    println!("| months | ours | plain | ours / plain |");
+    println!("|---:|---:|---:|---:|");
     for Length { n, rounds, .. } in lengths {
         let time = |k: usize, percent: usize| percentile(rounds.iter().map(|round| round[k]), percent);
-        let times = [0, 1, 2, 3].map(|k| format!("{:.0} ({:.0} to {:.0})", time(k, 50), time(k, 10), time(k, 90)));
-        let ratios = [1, 2, 3].map(|k| format!("{:.2}", percentile(rounds.iter().map(|round| round[0] / round[k]), 50)));
-        println!("| {n} | {} | {} |", times.join(" | "), ratios.join(" | "));
+        let times = [0, 1].map(|k| format!("{:.0} ({:.0} to {:.0})", time(k, 50), time(k, 10), time(k, 90)));
+        let ratio = percentile(rounds.iter().map(|round| round[0] / round[1]), 50);
+        println!("| {n} | {} | {ratio:.2} |", times.join(" | "));
     }
     println!("\nNanoseconds for a month:\n");
-    println!("| months | ours | plain | tuned | double |\n|---:|---:|---:|---:|---:|");
+    println!("| months | ours | plain |\n|---:|---:|---:|");
     for Length { n, rounds, .. } in lengths {
-        let times = [0, 1, 2, 3].map(|k| format!("{:.1}", percentile(rounds.iter().map(|round| round[k]), 50) / *n as f64));
+        let times = [0, 1].map(|k| format!("{:.1}", percentile(rounds.iter().map(|round| round[k]), 50) / *n as f64));
         println!("| {n} | {} |", times.join(" | "));
     }
     println!("\nThe clock itself takes about {:.0} ns of each call.", clock());
@@ -111,13 +104,11 @@ fn print_tables(lengths: &[Length]) {
 
 /// Works each series of n months once with one program.
 fn count(program: &str, n: usize) {
-    let (mut whole, mut doubles) = (Lent::new(n, 0, 0), Lent::new(n, 0.0, 0.0));
+    let mut lent = Lent::new(n, 0, 0);
     for Series { start, figures } in black_box(inputs(n)) {
         let answer = match program {
-            "ours" => ours::decompose(&figures, start, &mut whole),
-            "plain" => plain::decompose(&figures, start, &mut whole),
-            "tuned" => tuned::decompose(&figures, start, &mut whole),
-            _ => double::decompose(&figures, start, &mut doubles),
+            "ours" => ours::decompose(&figures, start, &mut lent),
+            _ => plain::decompose(&figures, start, &mut lent),
         };
         assert_eq!(black_box(answer), (0, 0));
     }
@@ -135,11 +126,11 @@ fn main() {
             }
             print_tables(&lengths);
         }
-        ["count", program @ ("ours" | "plain" | "tuned" | "double"), n] if n.parse::<usize>().is_ok_and(|n| (72..=600).contains(&n)) => {
+        ["count", program @ ("ours" | "plain"), n] if n.parse::<usize>().is_ok_and(|n| (72..=600).contains(&n)) => {
             count(program, n.parse().unwrap_or(600));
         }
         _ => {
-            eprintln!("bench, or bench count ours|plain|tuned|double N with N from 72 to 600");
+            eprintln!("bench, or bench count ours|plain N with N from 72 to 600");
             std::process::exit(2);
         }
     }

@@ -10,7 +10,7 @@ extern "C" {
     ) -> u8;
 }
 
-pub fn decompose(figures: &[i32], start: u8, lent: &mut Lent<i64, u16>) -> Answer {
+pub fn decompose(figures: &[i32], start: u8, lent: &mut Lent) -> Answer {
     let mut place = u64::MAX;
     // Each pointer goes with the length of the vector that it comes from, and no two overlap.
     let number = unsafe {

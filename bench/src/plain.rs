@@ -188,7 +188,7 @@ fn revise(figures: &[i32], start: u8, x: &mut [i64], [a, b, t, s]: [&mut [i64]; 
 }
 
 /// The three passes.
-pub fn decompose(figures: &[i32], start: u8, lent: &mut Lent<i64, u16>) -> Answer {
+pub fn decompose(figures: &[i32], start: u8, lent: &mut Lent) -> Answer {
     let Lent { d10, d11, d12, d13, b17, c17, scratch } = lent;
     let lengths = [d10.len(), d11.len(), d12.len(), d13.len(), b17.len(), c17.len()];
     let answer = check(figures, start, lengths, scratch.len());

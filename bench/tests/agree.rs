@@ -1,24 +1,21 @@
-//! The plain program and the tuned one give what ours gives, to the last entry of every lent slice; the one in doubles is near it.
+//! The plain program gives what ours gives, to the last entry of every lent slice.
 
 use bench::series::{at_the_limits, flat, ordinary, random, Dice, Series};
-use bench::{double, ours, plain, tuned, Answer, Lent};
+use bench::{ours, plain, Answer, Lent};
 
 /// Entries that no program leaves behind by chance.
-fn marked(n: usize, tail: usize) -> Lent<i64, u16> {
+fn marked(n: usize, tail: usize) -> Lent {
     let mut lent = Lent::new(n, 77, 77);
     lent.scratch.resize(8 * n + tail, 78);
     lent
 }
 
-/// Works one series with all three; the answer.
-fn same(name: &str, figures: &[i32], start: u8, lent: &Lent<i64, u16>) -> Answer {
-    let mut left = lent.clone();
+/// Works one series with both; the answer.
+fn same(name: &str, figures: &[i32], start: u8, lent: &Lent) -> Answer {
+    let (mut left, mut right) = (lent.clone(), lent.clone());
     let answer = ours::decompose(figures, start, &mut left);
-    for (program, decompose) in [("plain", plain::decompose as fn(&[i32], u8, &mut Lent<i64, u16>) -> Answer), ("tuned", tuned::decompose)] {
-        let mut right = lent.clone();
-        assert_eq!(decompose(figures, start, &mut right), answer, "{name}: the answer of {program}");
-        assert!(left == right, "{name}: a slice lent to {program}");
-    }
+    assert_eq!(plain::decompose(figures, start, &mut right), answer, "{name}: the answer");
+    assert!(left == right, "{name}: a lent slice");
     if answer.0 != 0 {
         assert!(left == *lent, "{name}: a refusal changes nothing");
     }
@@ -123,77 +120,5 @@ fn wrong_lengths() {
             assert_eq!(same("a wrong length", &vec![200_001; n], 1, &lent), (4, 0));
             assert_eq!(same("a wrong length", &vec![0; n], 13, &lent), (3, 0));
         }
-    }
-}
-
-/// The greatest distance of D10 to D13 in units from those in grains.
-fn distance(doubles: &Lent<f64, f64>, whole: &Lent<i64, u16>) -> f64 {
-    let pairs = [(&doubles.d10, &whole.d10), (&doubles.d11, &whole.d11), (&doubles.d12, &whole.d12), (&doubles.d13, &whole.d13)];
-    let tables = pairs.iter().flat_map(|(units, grains)| units.iter().zip(*grains));
-    tables.map(|(&unit, &grain)| (unit - grain as f64 / 1000.0).abs()).fold(0.0, f64::max)
-}
-
-/// The greatest distance of a weight from one in thousandths.
-fn weight_distance(doubles: &Lent<f64, f64>, whole: &Lent<i64, u16>) -> f64 {
-    let pairs = [(&doubles.b17, &whole.b17), (&doubles.c17, &whole.c17)];
-    let weights = pairs.iter().flat_map(|(weights, thousandths)| weights.iter().zip(*thousandths));
-    weights.map(|(&w, &v)| (w - v as f64 / 1000.0).abs()).fold(0.0, f64::max)
-}
-
-/// With our weights only the rounding to grains is left.
-#[test]
-fn double_with_our_weights_is_within_a_hundredth_of_a_unit() {
-    let mut dice = Dice::new(4);
-    for seed in 0..300 {
-        let n = dice.between(72, 600) as usize;
-        let Series { start, figures } = match seed % 5 {
-            0 => ordinary(seed, n, 60_000, 1_000),
-            1 => random(seed, n, 200_000),
-            2 => at_the_limits(seed, n),
-            3 => random(seed, n, 40),
-            _ => flat(seed, n, 100, 4),
-        };
-        let (mut whole, mut doubles) = (Lent::new(n, 0, 0), Lent::new(n, 1.0, 1.0));
-        assert_eq!(ours::decompose(&figures, start, &mut whole), (0, 0));
-        doubles.b17 = whole.b17.iter().map(|&w| w as f64 / 1000.0).collect();
-        doubles.c17 = whole.c17.iter().map(|&w| w as f64 / 1000.0).collect();
-        assert_eq!(double::decompose_with_weights(&figures, start, &mut doubles), (0, 0));
-        let far = distance(&doubles, &whole);
-        assert!(far < 0.01, "series {seed}, {n} months: {far} units");
-        assert!(doubles.scratch.iter().all(|&v| v == 0.0));
-    }
-}
-
-/// Ours rounds irregulars and spreads to whole units, so that weights differ by some units over the spread, and corrections
-/// by some units. In a few series a group drops another month, which moves its weights further; these are left out.
-#[test]
-fn double_is_within_some_units_where_the_weights_agree() {
-    let (mut near, mut all) = (0, 0);
-    let mut dice = Dice::new(5);
-    for seed in 0..300 {
-        let n = dice.between(72, 600) as usize;
-        let spread = [300, 1_000, 3_000][seed as usize % 3];
-        let Series { start, figures } = ordinary(seed, n, 60_000, spread);
-        let (mut whole, mut doubles) = (Lent::new(n, 0, 0), Lent::new(n, 0.0, 0.0));
-        assert_eq!(ours::decompose(&figures, start, &mut whole), (0, 0));
-        assert_eq!(double::decompose(&figures, start, &mut doubles), (0, 0));
-        all += 1;
-        if weight_distance(&doubles, &whole) < 8.0 / spread as f64 {
-            near += 1;
-            let far = distance(&doubles, &whole);
-            assert!(far < 10.0, "series {seed}, {n} months: {far} units");
-        }
-    }
-    assert!(100 * near >= 85 * all, "the weights agree on {near} of {all} series only");
-}
-
-#[test]
-fn double_refuses_as_ours() {
-    for (n, start, figure) in [(71, 1, 0), (601, 1, 0), (72, 0, 0), (72, 13, 0), (90, 2, 200_001)] {
-        let mut figures = vec![0; n];
-        figures[n - 1] = figure;
-        let answer = same("refused", &figures, start, &marked(n, 0));
-        assert_ne!(answer.0, 0);
-        assert_eq!(double::decompose(&figures, start, &mut Lent::new(n, 0.0, 0.0)), answer);
     }
 }
