@@ -1,29 +1,32 @@
 -- Rows 1 to 5: what each test on the way says of the answer.
-use mathlib.Core.Path.{_≡_, refl, sym, ap}
+use mathlib.Core.Path.{_≡_, refl, sym, ap, subst, subst⁻¹}
 use mathlib.Core.Bool.{Bool, true, false, not, _&&_}
 use mathlib.Core.List.{List}
-use Prim.Native.Nat.{ℕ, _+_, _≤_, _<_}
+use Prim.Native.Nat.{ℕ, _+_, _≤_}
 use native.Mathlib.Omega.{arith}
 use native.Mathlib.Decide.{decLe}
-use borrow.Author.Tests.{lt-ltb, le-ltb, eqb-true, leb-true}
+use borrow.Author.Tests.{ne-eqb, eqb-true, leb-true}
 use lib.Dec.{eqb}
 use lib.ListN.{length, List·getD-eq-default}
 use lib.IntN.{ℤ, pos}
 use Rattle.integers.specs.Sizes.{_within_}
 use Rattle.integers.proofs.SizeLaws.{by-abs}
 use Rattle.integers.specs.Lists.{_‼_, AllWithin}
-use Rattle.refusals.specs.Limits.{leastMonths, mostMonths, largestFigure}
-use Rattle.refusals.specs.Inside.{startInside, figureInside}
+use Rattle.refusals.specs.Limits.{largestFigure}
+use Rattle.refusals.specs.Inside.{figureInside}
 use Rattle.refusals.proofs.InsideLaws.{start-inside, figure-inside}
 use Rattle.refusals.specs.First.{firstOutside}
 use Rattle.refusals.specs.Sheet.{row, success}
 use Rattle.refusals.proofs.FirstLaws.{NoneBefore, all-passed}
-use Rattle.refusals.proofs.CheckLaws.{Stopped, _&_, row-applies, each-applies, each-passed, stopped, past-first}
+use Rattle.refusals.specs.Contracts.{Before, Stopped, spanChecks, SpanFits, Spans}
+use Rattle.refusals.proofs.CheckLaws.{one-more, row-applies, each-applies, each-passed, stopped-more, stopped, past-first, span-number, span-passed}
 use Rattle.refusals.specs.declared.Refusal.{Refusal}
+use Rattle.refusals.specs.declared.Verdict.{Verdict}
+use Rattle.refusals.specs.declared.Verdict.the-variants.{Refused}
 use Rattle.refusals.specs.declared.Found.the-variants.{At, Nowhere}
-use Rattle.refusals.specs.declared.Refusal.the-variants.{TooShort, TooLong, BadStart, WrongLength, FigureOutside}
+use Rattle.refusals.specs.declared.Refusal.the-variants.{WrongLength, FigureOutside}
 use Rattle.checks.specs.Answer.{scratchFor, fitting, decomposeChecks, answerFor}
-use Rattle.checks.specs.Contracts.{Fits, Accepts, Refuses}
+use Rattle.checks.specs.Contracts.{Fits, Accepts, Refuses, Checked}
 use Rattle.checks.specs.declared.Lengths.{Lengths}
 
 -- figures of which none is outside
@@ -67,29 +70,37 @@ module _ (start : ℕ) (f : List ℤ) (l : Lengths) where
   unfolding answerFor
   refuses s e = record { answer-is = sym (stopped (success tt) s); not-six = e }
 
-  pub too-short : length f < leastMonths → Refuses TooShort start f l
-  too-short a = refuses (record { at = 0; before = tt; here = row-applies 1 (lt-ltb _ _ a) }) refl
+  -- rows 1 to 3
+  out-of-span : {q : Refusal} → Stopped q (spanChecks (length f) start) → Refuses q start f l
+  out-of-span {q} s = refuses (stopped-more _ s) (ne-eqb (row q .number) 6 (λ e. omega (arith, span-number (length f) start s)))
 
-  module _ (a : leastMonths ≤ length f) where
-    pub too-long : mostMonths < length f → Refuses TooLong start f l
-    too-long b = refuses (record { at = 1; before = le-ltb _ _ a & tt; here = row-applies 2 (lt-ltb _ _ b) }) refl
+  pub by-span : {v : Verdict} {q : Refusal} → v ≡ Refused q → Spans v (length f) start → Checked v start f l
+  by-span e s = subst⁻¹ (λ (k : Verdict). Checked k start f l) e (out-of-span (subst (λ (k : Verdict). Spans k (length f) start) e s))
 
-    module _ (b : length f ≤ mostMonths) where
-      pub bad-start : startInside start ≡ false → Refuses BadStart start f l
-      bad-start c = refuses (record { at = 2; before = le-ltb _ _ a & le-ltb _ _ b & tt; here = row-applies 3 (ap not c) }) refl
+  -- the span fits
+  module _ (h : SpanFits (length f) start) where
+    three : Before 3 (decomposeChecks start f l)
+    three = span-passed h
 
-      module _ (c : startInside start ≡ true) where
-        pub wrong-length : fitting (length f) l ≡ false → Refuses WrongLength start f l
-        wrong-length d = refuses (record { at = 3; before = le-ltb _ _ a & le-ltb _ _ b & ap not c & tt; here = row-applies 4 (ap not d) }) refl
+    pub wrong-length : fitting (length f) l ≡ false → Refuses WrongLength start f l
+    wrong-length d = refuses (record { at = 3; before = three; here = row-applies 4 (ap not d) }) refl
 
-        module _ (d : fitting (length f) l ≡ true) where
-          pub outside : (t : ℕ) → firstOutside f ≡ At t → Refuses (FigureOutside t) start f l
-          outside t e = refuses (record { at = 4; before = le-ltb _ _ a & le-ltb _ _ b & ap not c & ap not d & tt; here = each-applies 5 e }) refl
+    module _ (d : fitting (length f) l ≡ true) where
+      four : Before 4 (decomposeChecks start f l)
+      four = one-more (decomposeChecks start f l) 3 three (ap not d)
 
-          pub fine : firstOutside f ≡ Nowhere → Accepts start f l
-          unfolding answerFor
-          fine e = record {
-            workable = record { figures = record { short = b; small = all-inside f e }; long = a; early = start-inside start c .0; late = start-inside start c .1 };
-            fits = fits (length f) l d;
-            answer-is = past-first (decomposeChecks start f l) (success tt) 5 (le-ltb _ _ a & le-ltb _ _ b & ap not c & ap not d & each-passed 5 e & tt);
-          }
+      pub outside : (t : ℕ) → firstOutside f ≡ At t → Refuses (FigureOutside t) start f l
+      outside t e = refuses (record { at = 4; before = four; here = each-applies 5 e }) refl
+
+      pub fine : firstOutside f ≡ Nowhere → Accepts start f l
+      unfolding answerFor
+      fine e = record {
+        workable = record {
+          figures = record { short = h .most; small = all-inside f e };
+          long = h .least;
+          early = start-inside start (h .inside) .0;
+          late = start-inside start (h .inside) .1;
+        };
+        fits = fits (length f) l d;
+        answer-is = past-first (decomposeChecks start f l) (success tt) 5 (one-more (decomposeChecks start f l) 4 four (each-passed 5 e));
+      }

@@ -11,8 +11,8 @@ use Rattle.series.specs.Contracts.{Figures}
 use Rattle.refusals.specs.Sheet.{row, success, refusal, refusalOf}
 use Rattle.refusals.specs.declared.Refusal.{Refusal}
 use Rattle.checks.specs.declared.Lengths.{Lengths}
-use Rattle.checks.specs.declared.Verdict.{Verdict}
-use Rattle.checks.specs.declared.Verdict.the-variants.{Fine, Refused}
+use Rattle.refusals.specs.declared.Verdict.{Verdict}
+use Rattle.refusals.specs.declared.Verdict.the-variants.{Fine, Refused}
 use Rattle.checks.specs.Answer.{scratchFor, groupEmptied, answerFor}
 
 -- figures within the limits, as many as a series has, and a start month

@@ -6,6 +6,7 @@ ghost use Rattle.checks.specs.Answer.{fitting};
 ghost use Rattle.checks.specs.Contracts.{Checked};
 use refusals::Found;
 use refusals::Refusal;
+use refusals::Verdict;
 
 // How long the lent slices are.
 pub struct Lengths {
@@ -44,26 +45,15 @@ fn fitting(n: usize, lent: Lengths) -> bool
     8 * n <= lent.scratch
 }
 
-// None of rows 1 to 5 applies, or the first that does.
-pub enum Verdict {
-    Fine,
-    Refused(Refusal),
-}
-
 // The first of rows 1 to 5 that applies.
 pub fn first_refusal(figures: &[i32], start: u8, lent: Lengths) -> Verdict
     ensures { λ r. ⌜ Checked r start (now (figures .entry)) lent ⌝ }
 {
     let n = figures.len();
-    if n < refusals::LEAST_MONTHS {
-        return Verdict::Refused(Refusal::TooShort);
-    }
-    if refusals::MOST_MONTHS < n {
-        return Verdict::Refused(Refusal::TooLong);
-    }
-    if refusals::start_outside(start) {
-        return Verdict::Refused(Refusal::BadStart);
-    }
+    let span = refusals::span(n, start);
+    let Verdict::Fine = span else {
+        return span;
+    };
     if fitting(n, lent) {
         let found = refusals::first_outside(figures);
         if let Found::At(t) = found {

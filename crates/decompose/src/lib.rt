@@ -11,9 +11,9 @@ ghost use Rattle.checks.specs.Contracts.{Workable};
 ghost use Rattle.decompose.specs.Contracts.{Correctable, WorkSlices, WeightSlices, Scratch, ExtremesCorrected, Corrected, Final, Finished, PassesDone};
 ghost use Rattle.decompose.specs.Promise.{zeroed, Promise};
 use checks::Lengths;
-use checks::Verdict;
 use extremes::Weighed;
 use refusals::Refusal;
+use refusals::Verdict;
 
 pub enum Decomposed {
     Tables,

@@ -14,7 +14,8 @@ use Rattle.refusals.specs.Limits.{leastMonths, mostMonths, monthsOfYear}
 use Rattle.refusals.specs.Inside.{startInside}
 use Rattle.refusals.specs.First.{firstOutside, firstAbove}
 use Rattle.refusals.specs.Sheet.{refusalOf}
-use Rattle.refusals.proofs.CheckLaws.{Before, _&_, each-passed, each-nowhere, none-applies, all-before}
+use Rattle.refusals.specs.Contracts.{Before}
+use Rattle.refusals.proofs.CheckLaws.{_&_, each-passed, each-nowhere, none-applies, all-before}
 use Rattle.desk_file.specs.declared.Reading.{Reading}
 use Rattle.desk_file.specs.declared.Reading.the-variants.{Series, Refused}
 use Rattle.desk_file.specs.File.{headerLength, fileLength, countIn, startIn, periodIn, seriesIn, weightsStart, figuresAt, weightsAt}

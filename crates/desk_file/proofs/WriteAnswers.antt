@@ -11,7 +11,8 @@ use Rattle.refusals.specs.Limits.{leastMonths, mostMonths}
 use Rattle.refusals.specs.Inside.{startInside}
 use Rattle.refusals.specs.First.{firstOutside, firstAbove}
 use Rattle.refusals.specs.Sheet.{success, refusalOf}
-use Rattle.refusals.proofs.CheckLaws.{Before, _&_, each-passed, each-nowhere, none-applies, all-before}
+use Rattle.refusals.specs.Contracts.{Before}
+use Rattle.refusals.proofs.CheckLaws.{_&_, each-passed, each-nowhere, none-applies, all-before}
 use Rattle.desk_file.specs.declared.Writing.{Writing}
 use Rattle.desk_file.specs.declared.Writing.the-variants.{Length, Refused}
 use Rattle.desk_file.specs.File.{SeriesWithWeights, fileLength}

@@ -8,6 +8,7 @@ use crate::Reading;
 use crate::arrays;
 use refusals::Found;
 use refusals::Refusal;
+use refusals::Verdict;
 ghost use mathlib.Core.Path.{_≡_};
 ghost use lib.ListN.{length};
 ghost use Rattle.desk_file.specs.ReadFile.{readAnswer, ReadDone, readSays};
@@ -23,14 +24,8 @@ fn read_answer(file: &[u8], figures: &[i32], weights: &[u16]) -> Reading
     let start = file[2];
     let period = file[3];
     let size = HEADER + MONTH * n;
-    if n < refusals::LEAST_MONTHS {
-        return Reading::Refused(Refusal::TooShort);
-    }
-    if refusals::MOST_MONTHS < n {
-        return Reading::Refused(Refusal::TooLong);
-    }
-    if refusals::start_outside(start) {
-        return Reading::Refused(Refusal::BadStart);
+    if let Verdict::Refused(refusal) = refusals::span(n, start) {
+        return Reading::Refused(refusal);
     }
     if period != PERIOD {
         return Reading::Refused(Refusal::BadPeriod);

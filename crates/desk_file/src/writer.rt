@@ -8,6 +8,7 @@ use crate::Writing;
 use crate::arrays;
 use refusals::Found;
 use refusals::Refusal;
+use refusals::Verdict;
 ghost use mathlib.Core.Path.{_≡_};
 ghost use Prim.Native.Nat.{_≤_};
 ghost use lib.ListN.{length};
@@ -21,14 +22,8 @@ fn write_answer(figures: &[i32], start: u8, weights: &[u16], out: &[u8]) -> Writ
     ensures { λ r. ⌜ writeSays r ≡ writeAnswer (series start (now (figures .entry)) (now (weights .entry))) (length (now (out .entry))) ⌝ }
 {
     let n = figures.len();
-    if n < refusals::LEAST_MONTHS {
-        return Writing::Refused(Refusal::TooShort);
-    }
-    if refusals::MOST_MONTHS < n {
-        return Writing::Refused(Refusal::TooLong);
-    }
-    if refusals::start_outside(start) {
-        return Writing::Refused(Refusal::BadStart);
+    if let Verdict::Refused(refusal) = refusals::span(n, start) {
+        return Writing::Refused(refusal);
     }
     let size = HEADER + MONTH * n;
     if weights.len() != n {

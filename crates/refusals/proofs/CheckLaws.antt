@@ -1,33 +1,24 @@
 -- Laws of checks in their order. A program that has passed i checks keeps `Before i`; where it refuses it shows `Stopped`, and where it accepts,
 -- that it is before the end.
-use Prim.Native.Nat.{ℕ, zero, suc}
+use Prim.Native.Nat.{ℕ, zero, suc, _≤_}
 use mathlib.Core.Path.{_≡_, refl, ap}
-use mathlib.Core.Bool.{Bool, true, false, cond}
-use mathlib.Core.List.{List, [], _∷_}
+use mathlib.Core.Bool.{Bool, true, false, cond, not}
+use mathlib.Core.List.{List, [], _∷_, _++_}
 use native.Mathlib.Omega.{arith}
+use borrow.Author.Tests.{le-ltb}
 use lib.ListN.{length, drop}
 use Rattle.refusals.specs.declared.Refusal.{Refusal}
 use Rattle.refusals.specs.declared.Found.{Found}
 use Rattle.refusals.specs.declared.Found.the-variants.{At, Nowhere}
 use Rattle.refusals.specs.Sheet.{row, Answer, success, refusal, refusalOf}
 use Rattle.refusals.specs.Checks.{Check, checkRow, checkEach, firstToApply}
+use Rattle.refusals.specs.Contracts.{Before, CheckAt, refusing, Stopped, spanChecks, SpanFits}
 
--- the first i do not apply
-abbrev pub Before : ℕ → List Check → Type 0
-Before zero ks = Unit
-Before (suc i) [] = ⊥
-Before (suc i) (k ∷ ks) = (k .applies ≡ false) × Before i ks
-
--- the check at place i: it does not apply; it is c
+-- the check at place i does not apply
 abbrev pub PassedAt : ℕ → List Check → Type 0
 PassedAt i [] = ⊥
 PassedAt zero (k ∷ ks) = k .applies ≡ false
 PassedAt (suc i) (k ∷ ks) = PassedAt i ks
-
-abbrev pub CheckAt : ℕ → Check → List Check → Type 0
-CheckAt i c [] = ⊥
-CheckAt zero c (k ∷ ks) = k ≡ c
-CheckAt (suc i) c (k ∷ ks) = CheckAt i c ks
 
 -- one test after the other
 infixr 40 _&_
@@ -40,9 +31,6 @@ one-more (k ∷ ks) zero h t = (t, tt)
 one-more (k ∷ ks) (suc i) h t = (h .0, one-more ks i (h .1) t)
 
 -- ---- a check that applies, and one that does not
-abbrev pub refusing : ℕ → ℕ → Check
-refusing number place = record { number = number; applies = true; place = place }
-
 pub row-applies : (k : ℕ) {b : Bool} → b ≡ true → checkRow k b ≡ refusing k 0
 row-applies k e = ap (checkRow k) e
 
@@ -56,14 +44,30 @@ pub each-nowhere : (k : ℕ) (f : Found) → checkEach k f .applies ≡ false �
 each-nowhere k (At t) e = let z : _≡_ {A = ℕ} 0 1 = cc in absurd (omega arith)
 each-nowhere k Nowhere e = refl
 
--- ---- the answer. A refusal q is that of the first check that applies
-pub record Stopped (q : Refusal) (ks : List Check) : Type 0 where
-  pub at : ℕ
-  pub before : Before at ks
-  pub here : CheckAt at (refusing (row q .number) (row q .place)) ks
-
+-- ---- the answer
 pub no-success : {A : Type 0} {k p : ℕ} {a : A} → _≡_ {A = Answer A} (refusal k p) (success a) → ⊥
 no-success e = let z : _≡_ {A = ℕ} 0 1 = cc in omega arith
+
+-- a refusal by a list of checks, with another check before it that does not apply, or with more behind
+pub stopped-after : {q : Refusal} {k : Check} {ks : List Check} → k .applies ≡ false → Stopped q ks → Stopped q (k ∷ ks)
+stopped-after e s = record { at = suc (s .at); before = (e, s .before); here = s .here }
+
+pub before-more : (ks more : List Check) (i : ℕ) → Before i ks → Before i (ks ++ more)
+before-more ks more zero h = tt
+before-more [] more (suc i) h = absurd h
+before-more (k ∷ ks) more (suc i) h = (h .0, before-more ks more i (h .1))
+
+check-more : (ks more : List Check) (i : ℕ) (c : Check) → CheckAt i c ks → CheckAt i c (ks ++ more)
+check-more [] more i c h = absurd h
+check-more (k ∷ ks) more zero c h = h
+check-more (k ∷ ks) more (suc i) c h = check-more ks more i c h
+
+pub stopped-more : {q : Refusal} {ks : List Check} (more : List Check) → Stopped q ks → Stopped q (ks ++ more)
+stopped-more {q} {ks} more s = record {
+  at = s .at;
+  before = before-more ks more (s .at) (s .before);
+  here = check-more ks more (s .at) (refusing (row q .number) (row q .place)) (s .here);
+}
 
 module _ {A : Type 0} where
   pub stop-at : (ks : List Check) (otherwise : Answer A) (i number place : ℕ) → Before i ks → CheckAt i (refusing number place) ks
@@ -97,3 +101,16 @@ module _ {A : Type 0} where
       let h = past (k .applies) (k .number) (k .place) (firstToApply ks otherwise) a e in
       let t = all-before ks otherwise a (h .1) in
       ((h .0, t .0), t .1)
+
+-- ---- rows 1 to 3
+span-at : (n start i number place : ℕ) → CheckAt i (refusing number place) (spanChecks n start) → number ≤ 3
+span-at n start zero number place e = let h : 1 ≡ number = ap (λ (c : Check). c .number) e in omega arith
+span-at n start (suc zero) number place e = let h : 2 ≡ number = ap (λ (c : Check). c .number) e in omega arith
+span-at n start (suc (suc zero)) number place e = let h : 3 ≡ number = ap (λ (c : Check). c .number) e in omega arith
+span-at n start (suc (suc (suc i))) number place e = absurd e
+
+pub span-number : {q : Refusal} (n start : ℕ) → Stopped q (spanChecks n start) → row q .number ≤ 3
+span-number {q} n start s = span-at n start (s .at) (row q .number) (row q .place) (s .here)
+
+pub span-passed : {n start : ℕ} → SpanFits n start → Before 3 (spanChecks n start)
+span-passed h = le-ltb _ _ (h .least) & le-ltb _ _ (h .most) & ap not (h .inside) & tt

@@ -4,6 +4,7 @@ ghost use mathlib.Core.Path.{_≡_};
 ghost use Rattle.refusals.specs.First.{firstAbove, firstOutside};
 ghost use Rattle.refusals.specs.Inside.{figureInside, startInside, weightInside};
 ghost use Rattle.refusals.specs.Sheet.{row};
+ghost use Rattle.refusals.specs.Contracts.{Spans};
 
 // Grains in a unit.
 pub const UNIT: i64 = 1000;
@@ -73,13 +74,35 @@ pub fn place(r: Refusal) -> usize
 }
 
 // Row 3: a start month outside 1 to 12.
-pub fn start_outside(start: u8) -> bool
+fn start_outside(start: u8) -> bool
     ensures { λ r. ⌜ r ≡ not (startInside start) ⌝ }
 {
     if start < 1 {
         return true;
     }
     MONTHS_OF_YEAR < start as usize
+}
+
+// No check applies, or the refusal of the first that does.
+pub enum Verdict {
+    Fine,
+    Refused(Refusal),
+}
+
+// Rows 1 to 3: n months from a start month.
+pub fn span(n: usize, start: u8) -> Verdict
+    ensures { λ r. ⌜ Spans r n start ⌝ }
+{
+    if n < LEAST_MONTHS {
+        return Verdict::Refused(Refusal::TooShort);
+    }
+    if MOST_MONTHS < n {
+        return Verdict::Refused(Refusal::TooLong);
+    }
+    if start_outside(start) {
+        return Verdict::Refused(Refusal::BadStart);
+    }
+    Verdict::Fine
 }
 
 // Row 5: a figure outside its limits.

@@ -1,27 +1,36 @@
 -- `checks::first_refusal` meets its contract: each return is the first row that applies.
 -- Assumes nothing.
-use mathlib.Core.Path.{sym, _∙_}
-use borrow.Author.Tests.{not-true, not-false}
-use Rattle.checks.proofs.Rows.{too-short, too-long, bad-start, wrong-length, outside, fine}
+use mathlib.Core.Path.{sym, subst, _∙_}
+use lib.ListN.{length}
+use Rattle.refusals.specs.declared.Verdict.{Verdict}
+use Rattle.refusals.specs.Contracts.{SpanFits, Spans}
+use Rattle.checks.proofs.Rows.{by-span, wrong-length, outside, fine}
 use borrow.Author.Needs.{needs}
 use Rattle.checks.proofs.first_refusal.Statement.{statement}
 use Rattle.checks.proofs.first_refusal.Tie as tie
 
+-- the start of the function, from where rows 1 to 3 are passed, and what they found
+abbrev from : tie.After-enum-told → tie.Start
+from c = c .before .before .before
+
+span-fits : (c : tie.After-enum-told) → SpanFits (length (from c .args .figures .now)) (from c .args .start)
+span-fits c = subst (λ (k : Verdict). Spans k (length (from c .args .figures .now)) (from c .args .start)) (c .enum-told .given .1) (c .before .before .span .ensures)
+
+span-requires : tie.Need-span-requires
+span-requires c κs = search needs
+
+enum-told : tie.Need-enum-told
+enum-told c = search needs
+
+enum-told-2 : tie.Need-enum-told-2
+enum-told-2 c = search needs
+
 returns : tie.Need-returns
-returns c = let s = c .before in too-short (s .args .start) (s .args .figures .now) (s .args .lent) (c .if1 .taken)
-
-returns-2 : tie.Need-returns-2
-returns-2 c = let e = c .before in let s = e .before in too-long (s .args .start) (s .args .figures .now) (s .args .lent) (e .if1 .left) (c .if2 .taken)
-
-start-outside-requires : tie.Need-start-outside-requires
-start-outside-requires c κs = search needs
-
-returns-3 : tie.Need-returns-3
-returns-3 c = let o = c .before in let b = o .before in let a = b .before in let s = a .before in
-    bad-start (s .args .start) (s .args .figures .now) (s .args .lent) (a .if1 .left) (b .if2 .left) (not-true _ (sym (o .start-outside .ensures) ∙ c .if3 .taken))
+returns c = let s = c .before .before .before in
+    by-span (s .args .start) (s .args .figures .now) (s .args .lent) (c .enum-told2 .given .1) (c .before .before .span .ensures)
 
 fitting-requires : tie.Need-fitting-requires
-fitting-requires c κs = search needs
+fitting-requires c κs = span-fits c .most
 
 first-outside-requires : tie.Need-first-outside-requires
 first-outside-requires c κs = search needs
@@ -29,33 +38,33 @@ first-outside-requires c κs = search needs
 enum-known-found : tie.Need-enum-known-found
 enum-known-found c = search needs
 
+returns-2 : tie.Need-returns-2
+returns-2 c = let o = c .before .before .before in let t = o .before in let g = t .before in let s = from (g .before) in
+    outside (s .args .start) (s .args .figures .now) (s .args .lent) (span-fits (g .before)) (sym (g .fitting .ensures) ∙ t .if1 .taken) _ (sym (o .first-outside .ensures) ∙ c .before .found .given .1)
+
+enum-told-3 : tie.Need-enum-told-3
+enum-told-3 c = search needs
+
+returns-3 : tie.Need-returns-3
+returns-3 c = let o = c .before .before in let t = o .before in let g = t .before in let s = from (g .before) in
+    fine (s .args .start) (s .args .figures .now) (s .args .lent) (span-fits (g .before)) (sym (g .fitting .ensures) ∙ t .if1 .taken) (sym (o .first-outside .ensures) ∙ c .enum-told3 .given .1)
+
 returns-4 : tie.Need-returns-4
-returns-4 c = let g = c .before .before .before .before .before in let i = g .before in let o = i .before in let b = o .before in let a = b .before in let s = a .before in
-    outside (s .args .start) (s .args .figures .now) (s .args .lent) (a .if1 .left) (b .if2 .left) (not-false _ (sym (o .start-outside .ensures) ∙ i .if3 .left)) (sym (g .fitting .ensures) ∙ c .before .before .before .before .if4 .taken) _ (sym (c .before .before .before .first-outside .ensures) ∙ c .before .found .given .1)
-
-enum-told : tie.Need-enum-told
-enum-told c = search needs
-
-returns-5 : tie.Need-returns-5
-returns-5 c = let g = c .before .before .before .before in let i = g .before in let o = i .before in let b = o .before in let a = b .before in let s = a .before in
-    fine (s .args .start) (s .args .figures .now) (s .args .lent) (a .if1 .left) (b .if2 .left) (not-false _ (sym (o .start-outside .ensures) ∙ i .if3 .left)) (sym (g .fitting .ensures) ∙ c .before .before .before .if4 .taken) (sym (c .before .before .first-outside .ensures) ∙ c .enum-told .given .1)
-
-returns-6 : tie.Need-returns-6
-returns-6 c = let g = c .before in let i = g .before in let o = i .before in let b = o .before in let a = b .before in let s = a .before in
-    wrong-length (s .args .start) (s .args .figures .now) (s .args .lent) (a .if1 .left) (b .if2 .left) (not-false _ (sym (o .start-outside .ensures) ∙ i .if3 .left)) (sym (g .fitting .ensures) ∙ c .if4 .left)
+returns-4 c = let g = c .before in let s = from (g .before) in
+    wrong-length (s .args .start) (s .args .figures .now) (s .args .lent) (span-fits (g .before)) (sym (g .fitting .ensures) ∙ c .if1 .left)
 
 pub first-refusal-spec : {M : Type 1} → statement M
 first-refusal-spec =
     tie.close
     (tie.spec
+    span-requires
+    enum-told
+    enum-told-2
     returns
-    returns-2
-    start-outside-requires
-    returns-3
     fitting-requires
     first-outside-requires
     enum-known-found
-    returns-4
-    enum-told
-    returns-5
-    returns-6)
+    returns-2
+    enum-told-3
+    returns-3
+    returns-4)

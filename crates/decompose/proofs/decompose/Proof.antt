@@ -3,7 +3,7 @@
 use mathlib.Core.Path.{subst}
 use Rattle.decompose.specs.Promise.{Slices, lengthsOf}
 use Rattle.checks.specs.Contracts.{Accepts, Checked}
-use Rattle.checks.specs.declared.Verdict.{Verdict}
+use Rattle.refusals.specs.declared.Verdict.{Verdict}
 use Rattle.decompose.proofs.Answers.{refused, tables}
 use borrow.Author.Needs.{needs}
 use Rattle.decompose.proofs.decompose.Statement.{statement}
