@@ -1,5 +1,5 @@
 -- The three passes: what each leaves is the next table of the rules, and is what the next asks.
-use mathlib.Core.Path.{_≡_, refl, ap, _∙_}
+use mathlib.Core.Path.{_≡_, _∙_}
 use mathlib.Core.List.{List}
 use Prim.Native.Nat.{ℕ}
 use native.Mathlib.Omega.{arith}
@@ -19,7 +19,7 @@ use Rattle.steps.proofs.Sound.{plain-sound}
 use Rattle.steps.proofs.Largest as pass
 use Rattle.steps.proofs.Lengths.{length-s2}
 use Rattle.pass.specs.Contracts.{PassSeries, Adjustable}
-use Rattle.extremes.specs.Weighing.{weightsOf, answerOf}
+use Rattle.extremes.specs.Weighing.{answerOf}
 use Rattle.extremes.specs.declared.Weighed.{Weighed}
 use Rattle.extremes.specs.declared.Weighed.the-variants.{Weights, EmptyGroup}
 use Rattle.extremes.proofs.WeighingLaws.{always-weighed}
@@ -30,32 +30,6 @@ use Rattle.figures.specs.Contracts.{WithSeasonal}
 use Rattle.checks.specs.Contracts.{Workable}
 use Rattle.decompose.specs.Contracts.{Correctable, lessExtremes, ExtremesCorrected, Corrected, Final, Finished}
 use Rattle.decompose.proofs.Grains.{within-grains}
-
--- ---- the tables of the rules by the steps of the code
-module _ (start : ℕ) (f : List ℤ) where
-  b13-is : {x : List ℤ} → x ≡ times unit f → irregularOf (times unit f) (S2 plainMonthly x) (T2 plainMonthly x) ≡ B13 start f
-  unfolding B13 B10 B7 B1
-  b13-is e = rw e
-
-  b17-is : weightsOf start monthsOfYear (B13 start f) ≡ B17 start f
-  unfolding B17
-  b17-is = refl
-
-  c1-is : lessExtremes start (times unit f) (B13 start f) ≡ C1 start f
-  unfolding lessExtremes C1 B20 B17 B1
-  c1-is = refl
-
-  c13-is : {x : List ℤ} → x ≡ C1 start f → irregularOf (times unit f) (S2 plainMonthly x) (T2 plainMonthly x) ≡ C13 start f
-  unfolding C13 C10 C7 B1
-  c13-is e = rw e
-
-  c17-is : weightsOf start monthsOfYear (C13 start f) ≡ C17 start f
-  unfolding C17
-  c17-is = refl
-
-  d1-is : lessExtremes start (times unit f) (C13 start f) ≡ D1 start f
-  unfolding lessExtremes D1 C20 C17 B1
-  d1-is = refl
 
 -- ---- passes B and C
 -- a group is emptied or not
@@ -68,7 +42,8 @@ module _ {start : ℕ} {f : List ℤ} (h : Workable start f) where
 
   -- C1 after pass B
   pub to-c1 : {x o : List ℤ} {r : Weighed} {w : List ℕ} → x ≡ times unit f → ExtremesCorrected start (times unit f) (S2 plainMonthly x) (T2 plainMonthly x) r o w → o ≡ C1 start f
-  to-c1 e k = k .series ∙ ap (lessExtremes start (times unit f)) (b13-is start f e) ∙ c1-is start f
+  unfolding lessExtremes C1 B20 B17 B13 B10 B7 B1
+  to-c1 e k = k .series ∙ rw e
 
   pub correctable-c : {x : List ℤ} → x ≡ C1 start f → Correctable start f x
   correctable-c e = rw e (record { workable = h; x-long = length-c1 start f; x-small = within-c1 start (h .figures .small) })
@@ -86,11 +61,12 @@ module _ {start : ℕ} {f : List ℤ} (h : Workable start f) where
 
   pub corrected : {x y o : List ℤ} {r q : Weighed} {v w : List ℕ} → x ≡ times unit f → ExtremesCorrected start (times unit f) (S2 plainMonthly x) (T2 plainMonthly x) r y v
       → ExtremesCorrected start (times unit f) (S2 plainMonthly y) (T2 plainMonthly y) q o w → Corrected start f q o v w
-  corrected {x} {y} e i j = let c = c13-is start f (to-c1 e i) in record {
+  unfolding lessExtremes D1 C20 C17 C13 C10 C7 B17 B13 B10 B7 B1
+  corrected {x} {y} e i j = let c = to-c1 e i in record {
     answered = j .answered ∙ weighed _ _;
-    series = j .series ∙ ap (lessExtremes start (times unit f)) c ∙ d1-is start f;
-    b17-is = i .weights ∙ ap (weightsOf start monthsOfYear) (b13-is start f e) ∙ b17-is start f;
-    c17-is = j .weights ∙ ap (weightsOf start monthsOfYear) c ∙ c17-is start f;
+    series = j .series ∙ rw c;
+    b17-is = i .weights ∙ rw e;
+    c17-is = j .weights ∙ rw c;
   }
 
   pub final : {x : List ℤ} → x ≡ D1 start f → Final f x

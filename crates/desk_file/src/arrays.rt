@@ -45,13 +45,13 @@ pub fn first_weight_above(file: &[u8], from: usize, n: usize) -> Found
     requires { ⌜ from + 2 * n ≤ length (now file) ⌝ }
     ensures { λ r. ⌜ r ≡ firstAbove (weightsAt (now (file .entry)) from n) ⌝ }
 {
-    let mut rest = n;
-    while 0 < rest {
-        let t = n - rest;
+    let mut left = n;
+    while 0 < left {
+        let t = n - left;
         if refusals::weight_above(stored_weight(file, from, t)) {
             return Found::At(t);
         }
-        rest -= 1;
+        left -= 1;
     }
     Found::Nowhere
 }

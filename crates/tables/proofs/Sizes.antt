@@ -1,7 +1,7 @@
 -- How long the tables of the three passes are, and how large, where no figure is outside its limits.
 use mathlib.Core.Path.{_≡_, _∙_}
 use mathlib.Core.List.{List}
-use Prim.Native.Nat.{ℕ, _+_}
+use Prim.Native.Nat.{ℕ, _+_, _*_, _≤_}
 use native.Mathlib.Omega.{arith}
 use lib.ListN.{length, getD}
 use lib.IntN.{ℤ}
@@ -11,12 +11,14 @@ use Rattle.refusals.specs.Limits.{unit, largestFigure}
 use Rattle.series.specs.Operations.{minus}
 use Rattle.series.proofs.Lengths.{length-minus, length-times}
 use Rattle.series.proofs.Largest.{within-minus, within-times}
-use Rattle.steps.proofs.Sound.{plain-sound}
+use Rattle.steps.specs.Choices.{Choices}
+use Rattle.steps.specs.Steps.{T2, S2}
+use Rattle.steps.proofs.Sound.{Sound, plain-sound}
 use Rattle.steps.proofs.Largest as pass
 use Rattle.extremes.specs.Weighing.{correctionOf}
 use Rattle.extremes.proofs.WeighingLaws.{correction-within}
 use Rattle.tables.specs.Tables.{irregularOf, corrections, B1, B7, B10, B13, B20, C1, C7, C10, C13, C20, D1}
-use Rattle.tables.specs.Bounds.{largestB1, largestB7, largestB10, largestC1, largestC7, largestC10, largestD1}
+use Rattle.tables.specs.Bounds.{largestB1, largestB7, largestC1, largestC7, largestD1}
 
 -- ---- what a seasonal and a trend leave, and its corrections
 pub length-irregular : (b1 s t : List ℤ) → length (irregularOf b1 s t) ≡ length b1
@@ -59,26 +61,15 @@ module _ (start : ℕ) {f : List ℤ} (h : AllWithin largestFigure f) where
   unfolding B1
   within-b1 = within-times unit f h
 
-  within-b7 : AllWithin largestB7 (B7 start f)
-  unfolding B7
-  within-b7 = pass.t2 plain-sound within-b1 largestB7 (omega arith)
-
-  within-b10 : AllWithin largestB10 (B10 start f)
-  unfolding B10
-  within-b10 = pass.s2 plain-sound within-b1 largestB7 (omega arith)
+  -- B1 less the corrections of what a pass on x leaves, where x is at most b and T2 at most t
+  within-corrected : {c : Choices} → Sound c → {b : ℕ} {x : List ℤ} → AllWithin b x → (t : ℕ) → 13 * b ≤ 2 * t → (w : List ℕ)
+      → AllWithin (largestB1 + (largestB1 + (2 * b + 2 * t) + t)) (minus (B1 start f) (corrections (irregularOf (B1 start f) (S2 c x) (T2 c x)) w))
+  within-corrected ok k t i w = within-minus within-b1 (within-corrections w (within-irregular within-b1 (pass.s2 ok k t i) (pass.t2 ok k t i)))
 
   pub within-c1 : AllWithin largestC1 (C1 start f)
-  unfolding C1 B20 B13
-  within-c1 = within-minus within-b1 (within-corrections _ (within-irregular within-b1 within-b10 within-b7))
-
-  within-c7 : AllWithin largestC7 (C7 start f)
-  unfolding C7
-  within-c7 = pass.t2 plain-sound within-c1 largestC7 (omega arith)
-
-  within-c10 : AllWithin largestC10 (C10 start f)
-  unfolding C10
-  within-c10 = pass.s2 plain-sound within-c1 largestC7 (omega arith)
+  unfolding C1 B20 B13 B10 B7
+  within-c1 = within-corrected plain-sound within-b1 largestB7 (omega arith) _
 
   pub within-d1 : AllWithin largestD1 (D1 start f)
-  unfolding D1 C20 C13
-  within-d1 = within-minus within-b1 (within-corrections _ (within-irregular within-b1 within-c10 within-c7))
+  unfolding D1 C20 C13 C10 C7
+  within-d1 = within-corrected plain-sound within-c1 largestC7 (omega arith) _

@@ -1,4 +1,4 @@
--- `desk_file::arrays::first_weight_above` meets its contract: the weights before the rest pass, and the first that fails is the answer.
+-- `desk_file::arrays::first_weight_above` meets its contract: the weights before those that are left pass, and the first that fails is the answer.
 -- Assumes nothing.
 use Prim.Native.Nat.{_-_, _≤_}
 use mathlib.Core.Path.{_≡_, sym, _∙_}
@@ -13,18 +13,18 @@ use Rattle.desk_file.proofs.arrays.first_weight_above.Statement.{statem
 use Rattle.desk_file.proofs.arrays.first_weight_above.Tie as tie
 
 abbrev Inv-loop : tie.InvT-loop
-Inv-loop file from n rest₀ rest = (rest ≤ n) × NoneBefore 0 weightInside (weightsAt file from n) (n - rest)
+Inv-loop file from n left₀ left = (left ≤ n) × NoneBefore 0 weightInside (weightsAt file from n) (n - left)
 
 abbrev μ-loop : tie.MeasureT-loop
-μ-loop file from n rest₀ rest = rest
+μ-loop file from n left₀ left = left
 
 -- the weight that was read is the one in the array
 read : (c : tie.After-stored-weight Inv-loop μ-loop) → let l = c .before .before in let a = l .before .before .args in
-    getD (weightsAt (a .file .now) (a .from) (a .n)) (a .n - l .loop .rest) 0 ≡ c .stored-weight .result
+    getD (weightsAt (a .file .now) (a .from) (a .n)) (a .n - l .loop .left) 0 ≡ c .stored-weight .result
 read c =
     let l = c .before .before in
     let a = l .before .before .args in
-    at-weightsAt (a .file .now) (a .from) (a .n) (a .n - l .loop .rest) (omega arith) ∙ sym (c .stored-weight .ensures)
+    at-weightsAt (a .file .now) (a .from) (a .n) (a .n - l .loop .left) (omega arith) ∙ sym (c .stored-weight .ensures)
 
 loop-holds : tie.Need-loop-holds Inv-loop μ-loop
 loop-holds c = (omega arith, none-yet (omega arith))
@@ -44,8 +44,8 @@ returns c =
     let v = c .before .before in
     first-here (v .before .before .loop .inv .1) (rw length-weightsAt (omega arith)) (read v) (c .before .weight-above .ensures) (c .if1 .taken)
 
-sub-rest : tie.Need-sub-rest Inv-loop μ-loop
-sub-rest c = omega arith
+sub-left : tie.Need-sub-left Inv-loop μ-loop
+sub-left c = omega arith
 
 loop-less : tie.Need-loop-less Inv-loop μ-loop
 loop-less c = omega arith
@@ -70,7 +70,7 @@ first-weight-above-spec =
     stored-weight-requires
     weight-above-requires
     returns
-    sub-rest
+    sub-left
     loop-less
     loop-again
     returns-2)
