@@ -2,14 +2,12 @@
 use mathlib.Core.Bool.{Bool, not, _&&_, _||_}
 use mathlib.Core.List.{List, [], _∷_}
 use Prim.Native.Nat.{ℕ, _*_}
-use lib.Dec.{ltb, leb, eqb}
+use lib.Dec.{leb, eqb}
 use lib.ListN.{length}
 use lib.IntN.{ℤ}
-use Rattle.refusals.specs.Limits.{leastMonths, mostMonths, monthsOfYear}
-use Rattle.refusals.specs.Inside.{startInside}
-use Rattle.refusals.specs.First.{firstOutside}
+use Rattle.refusals.specs.Limits.{monthsOfYear}
 use Rattle.refusals.specs.Sheet.{Answer, success}
-use Rattle.refusals.specs.Checks.{Check, checkRow, checkEach, firstToApply}
+use Rattle.refusals.specs.Checks.{Check, checkRow, row1, row2, row3, row5, firstToApply}
 use Rattle.extremes.specs.Spreads.{sizesOf}
 use Rattle.extremes.specs.Weighing.{emptied}
 use Rattle.tables.specs.Tables.{B13, C13}
@@ -34,11 +32,11 @@ groupEmptied start figures = emptied start monthsOfYear (sizesOf (B13 start figu
 abbrev pub decomposeChecks : ℕ → List ℤ → Lengths → List Check
 decomposeChecks start figures lengths =
     let n = length figures in
-    checkRow 1 (ltb n leastMonths)
-    ∷ checkRow 2 (ltb mostMonths n)
-    ∷ checkRow 3 (not (startInside start))
+    row1 n
+    ∷ row2 n
+    ∷ row3 start
     ∷ checkRow 4 (not (fitting n lengths))
-    ∷ checkEach 5 (firstOutside figures)
+    ∷ row5 figures
     ∷ checkRow 6 (groupEmptied start figures)
     ∷ []
 

@@ -2,16 +2,15 @@
 -- here is promised to a caller of the desk.
 use Prim.Native.Nat.{ℕ, zero, suc, _≤_}
 use mathlib.Core.Path.{_≡_}
-use mathlib.Core.Bool.{true, false, not}
+use mathlib.Core.Bool.{true, false}
 use mathlib.Core.List.{List, [], _∷_}
-use lib.Dec.{ltb}
 use Rattle.refusals.specs.declared.Refusal.{Refusal}
 use Rattle.refusals.specs.declared.Verdict.{Verdict}
 use Rattle.refusals.specs.declared.Verdict.the-variants.{Fine, Refused}
 use Rattle.refusals.specs.Limits.{leastMonths, mostMonths}
 use Rattle.refusals.specs.Inside.{startInside}
 use Rattle.refusals.specs.Sheet.{row}
-use Rattle.refusals.specs.Checks.{Check, checkRow}
+use Rattle.refusals.specs.Checks.{Check, row1, row2, row3}
 
 -- the first i do not apply
 abbrev pub Before : ℕ → List Check → Type 0
@@ -37,7 +36,7 @@ pub record Stopped (q : Refusal) (ks : List Check) : Type 0 where
 
 -- rows 1 to 3, which every entry point checks in a row: n months from a start month
 abbrev pub spanChecks : ℕ → ℕ → List Check
-spanChecks n start = checkRow 1 (ltb n leastMonths) ∷ checkRow 2 (ltb mostMonths n) ∷ checkRow 3 (not (startInside start)) ∷ []
+spanChecks n start = row1 n ∷ row2 n ∷ row3 start ∷ []
 
 pub record SpanFits (n start : ℕ) : Type 0 where
   pub least : leastMonths ≤ n
