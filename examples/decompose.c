@@ -2,8 +2,8 @@
    D13 in units, and the weights B17 and C17. The file's own weights are checked and not used. A refusal goes to standard error with its
    number and place, and its number is the exit status; 100 if reading or printing fails. In the repository's folder:
 
-       rt staticlib exports
-       cc -std=c99 -Wall -Wextra -Wpedantic -Werror -O2 -I include -o target/decompose-c examples/decompose.c target/staticlib/libexports.a
+       rt staticlib vepsjalm
+       cc -std=c99 -Wall -Wextra -Wpedantic -Werror -O2 -I include -o target/decompose-c examples/decompose.c target/staticlib/libvepsjalm.a
        target/decompose-c examples/production.desk
 */
 #include <inttypes.h>
@@ -36,9 +36,9 @@ static int failed(const char *name)
     return FAILED;
 }
 
-static int refused(int number, uint64_t place)
+static int refused(int number, size_t place)
 {
-    fprintf(stderr, "refused %d %" PRIu64 "\n", number, place);
+    fprintf(stderr, "refused %d %zu\n", number, place);
     return number;
 }
 
@@ -61,12 +61,11 @@ int main(int arguments, char **words)
     size_t size;
     if (!load(name, &size))
         return failed(name);
-    uint64_t count, place;
+    size_t n, place;
     uint8_t start;
-    int number = vepsjalm_read(file, size, figures, MONTHS, weights, MONTHS, &count, &start, &place);
+    int number = vepsjalm_read(file, size, figures, MONTHS, weights, MONTHS, &n, &start, &place);
     if (number != VEPSJALM_SUCCESS)
         return refused(number, place);
-    size_t n = (size_t)count;
     number = vepsjalm_decompose(figures, n, start, d10, n, d11, n, d12, n, d13, n, b17, n, c17, n,
                                 scratch, VEPSJALM_SCRATCH_FOR(n), &place);
     if (number != VEPSJALM_SUCCESS)

@@ -2,7 +2,7 @@
 //! D13 in units, and the weights B17 and C17. The file's own weights are checked and not used. A refusal goes to standard error with its
 //! number and place, and its number is the exit status; 100 if reading or printing fails. In the repository's folder:
 //!
-//!     rt staticlib exports
+//!     rt staticlib vepsjalm
 //!     rustc --edition 2021 -O -D warnings -L target/staticlib -o target/decompose-rust examples/decompose.rs
 //!     target/decompose-rust examples/production.desk
 
@@ -11,18 +11,18 @@ use std::io::{Read, Write};
 use std::process::ExitCode;
 
 // As in include/vepsjalm.h, which says what each asks and leaves. A slice is a pointer and its length.
-#[link(name = "exports", kind = "static")]
+#[link(name = "vepsjalm", kind = "static")]
 extern "C" {
     fn vepsjalm_read(
         file: *const u8, file_length: usize, figures: *mut i32, figures_length: usize, weights: *mut u16, weights_length: usize,
-        count: *mut u64, start: *mut u8, place: *mut u64,
+        count: *mut usize, start: *mut u8, place: *mut usize,
     ) -> u8;
     fn vepsjalm_decompose(
         figures: *const i32, figures_length: usize, start: u8,
         d10: *mut i64, d10_length: usize, d11: *mut i64, d11_length: usize,
         d12: *mut i64, d12_length: usize, d13: *mut i64, d13_length: usize,
         b17: *mut u16, b17_length: usize, c17: *mut u16, c17_length: usize,
-        scratch: *mut i64, scratch_length: usize, place: *mut u64,
+        scratch: *mut i64, scratch_length: usize, place: *mut usize,
     ) -> u8;
 }
 
@@ -31,7 +31,7 @@ const LONGEST_FILE: u64 = 3604;
 const FAILED: u8 = 100; // the exit status where the system fails to read or print: no refusal has this number
 
 /// The figures and the start month, or a refusal's number and place.
-fn read(file: &[u8]) -> Result<(Vec<i32>, u8), (u8, u64)> {
+fn read(file: &[u8]) -> Result<(Vec<i32>, u8), (u8, usize)> {
     let (mut figures, mut weights) = (vec![0; MOST_MONTHS], vec![0; MOST_MONTHS]);
     let (mut count, mut start, mut place) = (0, 0, 0);
     // Each pointer goes with the length of what it points to, and no two overlap; below likewise.
@@ -39,12 +39,12 @@ fn read(file: &[u8]) -> Result<(Vec<i32>, u8), (u8, u64)> {
         vepsjalm_read(file.as_ptr(), file.len(), figures.as_mut_ptr(), MOST_MONTHS, weights.as_mut_ptr(), MOST_MONTHS,
             &mut count, &mut start, &mut place)
     };
-    figures.truncate(count as usize);
+    figures.truncate(count);
     if number == 0 { Ok((figures, start)) } else { Err((number, place)) }
 }
 
 /// The text of the tables, or a refusal's number and place.
-fn tables(figures: &[i32], start: u8) -> Result<String, (u8, u64)> {
+fn tables(figures: &[i32], start: u8) -> Result<String, (u8, usize)> {
     let n = figures.len();
     let (mut d10, mut d11, mut d12, mut d13) = (vec![0; n], vec![0; n], vec![0; n], vec![0; n]);
     let (mut b17, mut c17, mut scratch, mut place) = (vec![0; n], vec![0; n], vec![0; 8 * n], 0);

@@ -1,5 +1,5 @@
 /* Vepsjalm: seasonal adjustment of a monthly series by the additive X-11 method, and its desk file. For C99 or later, and for C++.
-   `rt staticlib exports` in the repository's folder writes the library, target/staticlib/libexports.a, for x86-64 Linux; beside it only the
+   `rt staticlib vepsjalm` in the repository's folder writes the library, target/staticlib/libvepsjalm.a, for x86-64 Linux; beside it only the
    C library is needed. examples/decompose.c is a whole caller of reading and decomposing.
 
    The filters are fixed: 2x12, 3x3, 3x5 and 13-term Henderson with Musgrave's ends. No multiplicative working, calendar effects, forecasts
@@ -75,7 +75,7 @@ uint8_t vepsjalm_decompose(
     int64_t *d10, size_t d10_length, int64_t *d11, size_t d11_length,
     int64_t *d12, size_t d12_length, int64_t *d13, size_t d13_length,
     uint16_t *b17, size_t b17_length, uint16_t *c17, size_t c17_length,
-    int64_t *scratch, size_t scratch_length, uint64_t *place);
+    int64_t *scratch, size_t scratch_length, size_t *place);
 
 /* Reading a desk file. It has the count n in 2 bytes, the start month in 1 and the period 12 in 1, then n figures of 4 bytes, signed, then
    n final weights of 2 bytes, all low byte first: 4+6n bytes.
@@ -90,7 +90,7 @@ uint8_t vepsjalm_decompose(
    Slices of VEPSJALM_MOST_MONTHS entries have room for every file. */
 uint8_t vepsjalm_read(
     const uint8_t *file, size_t file_length, int32_t *figures, size_t figures_length, uint16_t *weights, size_t weights_length,
-    uint64_t *count, uint8_t *start, uint64_t *place);
+    size_t *count, uint8_t *start, size_t *place);
 
 /* Writing a desk file. After success the first *size bytes of out, read again with that length, give the same series and weights.
 
@@ -102,7 +102,7 @@ uint8_t vepsjalm_read(
    place       set to the refusal's place; 0 after success */
 uint8_t vepsjalm_write(
     const int32_t *figures, size_t figures_length, uint8_t start, const uint16_t *weights, size_t weights_length,
-    uint8_t *out, size_t out_length, uint64_t *size, uint64_t *place);
+    uint8_t *out, size_t out_length, size_t *size, size_t *place);
 
 #ifdef __cplusplus
 }

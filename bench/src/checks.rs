@@ -22,7 +22,7 @@ pub fn check(figures: &[i32], start: u8, tables: [usize; 6], scratch: usize) -> 
     // All figures are looked at together; the place is searched only if one is outside.
     if figures.iter().fold(false, |any, &figure| any | outside(figure)) {
         let place = figures.iter().position(|&figure| outside(figure)).unwrap_or(0);
-        return (5, place as u64);
+        return (5, place);
     }
     (0, 0)
 }

@@ -44,4 +44,4 @@ impl Lent {
 }
 
 /// Number (0 for success, else the refusal's) and place.
-pub type Answer = (u8, u64);
+pub type Answer = (u8, usize);

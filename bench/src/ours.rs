@@ -6,12 +6,12 @@ extern "C" {
     fn vepsjalm_decompose(
         figures: *const i32, n: usize, start: u8,
         d10: *mut i64, n10: usize, d11: *mut i64, n11: usize, d12: *mut i64, n12: usize, d13: *mut i64, n13: usize,
-        b17: *mut u16, nb: usize, c17: *mut u16, nc: usize, scratch: *mut i64, ns: usize, place: *mut u64,
+        b17: *mut u16, nb: usize, c17: *mut u16, nc: usize, scratch: *mut i64, ns: usize, place: *mut usize,
     ) -> u8;
 }
 
 pub fn decompose(figures: &[i32], start: u8, lent: &mut Lent) -> Answer {
-    let mut place = u64::MAX;
+    let mut place = usize::MAX;
     // Each pointer goes with the length of the vector that it comes from, and no two overlap.
     let number = unsafe {
         vepsjalm_decompose(

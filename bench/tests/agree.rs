@@ -97,7 +97,7 @@ fn refusals() {
         let mut figures = vec![-200_000; 73];
         figures[place] = figure;
         figures[72] = figure;
-        assert_eq!(same("a figure outside", &figures, 3, &marked(73, 1)), (5, place as u64));
+        assert_eq!(same("a figure outside", &figures, 3, &marked(73, 1)), (5, place));
     }
 }
 

@@ -27,7 +27,7 @@ fn compare(name: &str, figures: &[i32], start: u8, lengths: &Lent) -> Option<Tab
     let answer = proved::decompose(figures, start, &mut slices);
     match decompose(figures, start, lengths) {
         Err(Refusal { number, place }) => {
-            assert_eq!(answer, (number, place as u64), "{name}");
+            assert_eq!(answer, (number, place), "{name}");
             assert_eq!(slices, before, "{name}: a refusal changes no slice");
             None
         }

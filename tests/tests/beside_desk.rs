@@ -13,12 +13,12 @@ fn compare_read(name: &str, file: &[u8], figures_room: usize, weights_room: usiz
     let (answer, count, start) = proved::read(file, &mut figures, &mut weights);
     match read(file, figures_room, weights_room) {
         Err(Refusal { number, place }) => {
-            assert_eq!((answer, count, start), ((number, place as u64), 0, 0), "{name}");
+            assert_eq!((answer, count, start), ((number, place), 0, 0), "{name}");
             assert_eq!((figures, weights), (before_figures, before_weights), "{name}: nothing is filled");
         }
         Ok(series) => {
             let n = series.figures.len();
-            assert_eq!((answer, count, start), ((0, 0), n as u64, series.start), "{name}");
+            assert_eq!((answer, count, start), ((0, 0), n, series.start), "{name}");
             assert_eq!(figures[..n], series.figures, "{name}");
             assert_eq!(weights[..n], series.weights, "{name}");
             assert_eq!(figures[n..], before_figures[n..], "{name}: the rest stays");
@@ -34,11 +34,11 @@ fn compare_write(name: &str, figures: &[i32], start: u8, weights: &[u16], room: 
     let (answer, size) = proved::write(figures, start, weights, &mut out);
     match write(figures, start, weights, room) {
         Err(Refusal { number, place }) => {
-            assert_eq!((answer, size), ((number, place as u64), 0), "{name}");
+            assert_eq!((answer, size), ((number, place), 0), "{name}");
             assert_eq!(out, before, "{name}: nothing is written");
         }
         Ok(file) => {
-            assert_eq!((answer, size), ((0, 0), file.len() as u64), "{name}");
+            assert_eq!((answer, size), ((0, 0), file.len()), "{name}");
             assert_eq!(out[..file.len()], file, "{name}");
             assert_eq!(out[file.len()..], before[file.len()..], "{name}: the rest stays");
             compare_read(name, &out[..file.len()], figures.len() + 1, figures.len());

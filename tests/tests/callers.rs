@@ -179,7 +179,7 @@ fn constants() -> Vec<(&'static str, usize)> {
 fn try_header(compiler: &str, language: &str) {
     let program = PathBuf::from(env!("CARGO_TARGET_TMPDIR")).join(format!("header-{language}"));
     let options = "-Wall -Wextra -Wpedantic -Werror -I include";
-    let sources = format!("-x {language} tests/tests/header.c -x none target/staticlib/libexports.a");
+    let sources = format!("-x {language} tests/tests/header.c -x none target/staticlib/libvepsjalm.a");
     build(&format!("{compiler} {options} -o '{}' {sources}", program.display()), &program);
     let output = Command::new(&program).arg(root().join("examples/production.desk")).output().expect("a run");
     let mut lines: Vec<String> = constants().iter().map(|(name, value)| format!("VEPSJALM_{name} {value}\n")).collect();

@@ -42,12 +42,12 @@ int main(int arguments, char **words)
         return 100;
     size_t size = fread(file, 1, sizeof file, stream);
     fclose(stream);
-    uint64_t count, place, written;
+    size_t count, place, written;
     uint8_t start;
     int number = vepsjalm_read(file, size, figures, VEPSJALM_MOST_MONTHS, weights, VEPSJALM_MOST_MONTHS, &count, &start, &place);
-    printf("read %d %" PRIu64 " %d %" PRIu64 "\n", number, count, start, place);
-    number = vepsjalm_write(figures, (size_t)count, start, weights, (size_t)count, out, sizeof out, &written, &place);
-    printf("write %d %" PRIu64 " %" PRIu64 "\n", number, written, place);
-    fwrite(out, 1, (size_t)written, stdout);
+    printf("read %d %zu %d %zu\n", number, count, start, place);
+    number = vepsjalm_write(figures, count, start, weights, count, out, sizeof out, &written, &place);
+    printf("write %d %zu %zu\n", number, written, place);
+    fwrite(out, 1, written, stdout);
     return 0;
 }

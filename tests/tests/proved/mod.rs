@@ -4,15 +4,15 @@ extern "C" {
     fn vepsjalm_decompose(
         figures: *const i32, n: usize, start: u8,
         d10: *mut i64, n10: usize, d11: *mut i64, n11: usize, d12: *mut i64, n12: usize, d13: *mut i64, n13: usize,
-        b17: *mut u16, nb: usize, c17: *mut u16, nc: usize, scratch: *mut i64, ns: usize, place: *mut u64,
+        b17: *mut u16, nb: usize, c17: *mut u16, nc: usize, scratch: *mut i64, ns: usize, place: *mut usize,
     ) -> u8;
     fn vepsjalm_read(
         file: *const u8, n: usize, figures: *mut i32, nf: usize, weights: *mut u16, nw: usize,
-        count: *mut u64, start: *mut u8, place: *mut u64,
+        count: *mut usize, start: *mut u8, place: *mut usize,
     ) -> u8;
     fn vepsjalm_write(
         figures: *const i32, n: usize, start: u8, weights: *const u16, nw: usize, out: *mut u8, no: usize,
-        size: *mut u64, place: *mut u64,
+        size: *mut usize, place: *mut usize,
     ) -> u8;
 }
 
@@ -29,11 +29,11 @@ pub struct Slices {
 }
 
 /// Number (0 for success) and place.
-pub type Answer = (u8, u64);
+pub type Answer = (u8, usize);
 
 #[allow(dead_code)]
 pub fn decompose(figures: &[i32], start: u8, lent: &mut Slices) -> Answer {
-    let mut place = u64::MAX;
+    let mut place = usize::MAX;
     // Each pointer goes with the length of the vector that it comes from, and no two overlap.
     let number = unsafe {
         vepsjalm_decompose(
@@ -49,8 +49,8 @@ pub fn decompose(figures: &[i32], start: u8, lent: &mut Slices) -> Answer {
 
 /// Answer, count and start month.
 #[allow(dead_code)]
-pub fn read(file: &[u8], figures: &mut [i32], weights: &mut [u16]) -> (Answer, u64, u8) {
-    let (mut count, mut start, mut place) = (u64::MAX, u8::MAX, u64::MAX);
+pub fn read(file: &[u8], figures: &mut [i32], weights: &mut [u16]) -> (Answer, usize, u8) {
+    let (mut count, mut start, mut place) = (usize::MAX, u8::MAX, usize::MAX);
     let number = unsafe {
         vepsjalm_read(
             file.as_ptr(), file.len(), figures.as_mut_ptr(), figures.len(), weights.as_mut_ptr(), weights.len(),
@@ -62,8 +62,8 @@ pub fn read(file: &[u8], figures: &mut [i32], weights: &mut [u16]) -> (Answer, u
 
 /// Answer and length.
 #[allow(dead_code)]
-pub fn write(figures: &[i32], start: u8, weights: &[u16], out: &mut [u8]) -> (Answer, u64) {
-    let (mut size, mut place) = (u64::MAX, u64::MAX);
+pub fn write(figures: &[i32], start: u8, weights: &[u16], out: &mut [u8]) -> (Answer, usize) {
+    let (mut size, mut place) = (usize::MAX, usize::MAX);
     let number = unsafe {
         vepsjalm_write(
             figures.as_ptr(), figures.len(), start, weights.as_ptr(), weights.len(), out.as_mut_ptr(), out.len(),

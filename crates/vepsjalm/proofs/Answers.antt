@@ -17,7 +17,7 @@ use Rattle.desk_file.specs.declared.Reading.{Reading}
 use Rattle.desk_file.specs.declared.Reading.the-variants as reading
 use Rattle.desk_file.specs.declared.Writing.{Writing}
 use Rattle.desk_file.specs.declared.Writing.the-variants as writing
-use Rattle.exports.specs.Numbers.{numberOf, placeOf, valueOf, DecomposeNumbers, ReadNumbers, WriteNumbers}
+use Rattle.vepsjalm.specs.Numbers.{numberOf, placeOf, valueOf, DecomposeNumbers, ReadNumbers, WriteNumbers}
 
 -- no row of the sheet has the number 0
 numbers : (q : Refusal) → row q .number ≡ 0 → ⊥

@@ -1,9 +1,9 @@
--- `exports::vepsjalm_read` meets its contract: the answer's number and values, and the slices as they are promised.
+-- `vepsjalm::vepsjalm_read` meets its contract: the answer's number and values, and the slices as they are promised.
 -- Assumes nothing.
-use Rattle.exports.proofs.Answers.{has-series, not-read}
+use Rattle.vepsjalm.proofs.Answers.{has-series, not-read}
 use borrow.Author.Needs.{needs}
-use Rattle.exports.proofs.vepsjalm_read.Statement.{statement}
-use Rattle.exports.proofs.vepsjalm_read.Tie as tie
+use Rattle.vepsjalm.proofs.vepsjalm_read.Statement.{statement}
+use Rattle.vepsjalm.proofs.vepsjalm_read.Tie as tie
 
 read-requires : tie.Need-read-requires
 read-requires c κs = search needs

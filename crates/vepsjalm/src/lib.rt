@@ -1,6 +1,6 @@
 // Decomposing, reading and writing for callers in other languages: an answer is a number, 0 for success, else the refusal's number.
 ghost use Rattle.desk_file.specs.File.{series};
-ghost use Rattle.exports.specs.Numbers.{DecomposeNumbers, ReadNumbers, WriteNumbers};
+ghost use Rattle.vepsjalm.specs.Numbers.{DecomposeNumbers, ReadNumbers, WriteNumbers};
 use decompose::Decomposed;
 use desk_file::Reading;
 use desk_file::Writing;
@@ -16,7 +16,7 @@ pub extern "C" fn vepsjalm_decompose(
     b17: &mut [u16],
     c17: &mut [u16],
     scratch: &mut [i64],
-    place: &mut u64,
+    place: &mut usize,
 ) -> u8
     ensures { λ r. ⌜ DecomposeNumbers start (now (figures .entry))
         (record { d10 = now (d10 .entry); d11 = now (d11 .entry); d12 = now (d12 .entry); d13 = now (d13 .entry); b17 = now (b17 .entry); c17 = now (c17 .entry); scratch = now (scratch .entry) })
@@ -28,7 +28,7 @@ pub extern "C" fn vepsjalm_decompose(
         *place = 0;
         return 0;
     };
-    *place = refusals::place(refusal) as u64;
+    *place = refusals::place(refusal);
     refusals::number(refusal)
 }
 
@@ -37,9 +37,9 @@ pub extern "C" fn vepsjalm_read(
     file: &[u8],
     figures: &mut [i32],
     weights: &mut [u16],
-    count: &mut u64,
+    count: &mut usize,
     start: &mut u8,
-    place: &mut u64,
+    place: &mut usize,
 ) -> u8
     ensures { λ r. ⌜ ReadNumbers (now (file .entry)) (now (figures .entry)) (now (weights .entry)) r (now (count .exit)) (now (start .exit)) (now (place .exit)) (now (figures .exit)) (now (weights .exit)) ⌝ }
 {
@@ -48,7 +48,7 @@ pub extern "C" fn vepsjalm_read(
             count: n,
             start: first,
         } => {
-            *count = n as u64;
+            *count = n;
             *start = first;
             *place = 0;
             0
@@ -56,7 +56,7 @@ pub extern "C" fn vepsjalm_read(
         Reading::Refused(refusal) => {
             *count = 0;
             *start = 0;
-            *place = refusals::place(refusal) as u64;
+            *place = refusals::place(refusal);
             refusals::number(refusal)
         }
     }
@@ -68,20 +68,20 @@ pub extern "C" fn vepsjalm_write(
     start: u8,
     weights: &[u16],
     out: &mut [u8],
-    size: &mut u64,
-    place: &mut u64,
+    size: &mut usize,
+    place: &mut usize,
 ) -> u8
     ensures { λ r. ⌜ WriteNumbers (series start (now (figures .entry)) (now (weights .entry))) (now (out .entry)) r (now (size .exit)) (now (place .exit)) (now (out .exit)) ⌝ }
 {
     match desk_file::write(figures, start, weights, out) {
         Writing::Length(n) => {
-            *size = n as u64;
+            *size = n;
             *place = 0;
             0
         }
         Writing::Refused(refusal) => {
             *size = 0;
-            *place = refusals::place(refusal) as u64;
+            *place = refusals::place(refusal);
             refusals::number(refusal)
         }
     }

@@ -1,9 +1,9 @@
--- `exports::vepsjalm_decompose` meets its contract: the answer's number and place, and the slices as they are promised.
+-- `vepsjalm::vepsjalm_decompose` meets its contract: the answer's number and place, and the slices as they are promised.
 -- Assumes nothing.
-use Rattle.exports.proofs.Answers.{has-tables, not-tables}
+use Rattle.vepsjalm.proofs.Answers.{has-tables, not-tables}
 use borrow.Author.Needs.{needs}
-use Rattle.exports.proofs.vepsjalm_decompose.Statement.{statement}
-use Rattle.exports.proofs.vepsjalm_decompose.Tie as tie
+use Rattle.vepsjalm.proofs.vepsjalm_decompose.Statement.{statement}
+use Rattle.vepsjalm.proofs.vepsjalm_decompose.Tie as tie
 
 decompose-requires : tie.Need-decompose-requires
 decompose-requires c κs = search needs

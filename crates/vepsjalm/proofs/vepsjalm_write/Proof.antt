@@ -1,9 +1,9 @@
--- `exports::vepsjalm_write` meets its contract: the answer's number and values, and the output as it is promised.
+-- `vepsjalm::vepsjalm_write` meets its contract: the answer's number and values, and the output as it is promised.
 -- Assumes nothing.
-use Rattle.exports.proofs.Answers.{has-length, not-written}
+use Rattle.vepsjalm.proofs.Answers.{has-length, not-written}
 use borrow.Author.Needs.{needs}
-use Rattle.exports.proofs.vepsjalm_write.Statement.{statement}
-use Rattle.exports.proofs.vepsjalm_write.Tie as tie
+use Rattle.vepsjalm.proofs.vepsjalm_write.Statement.{statement}
+use Rattle.vepsjalm.proofs.vepsjalm_write.Tie as tie
 
 write-requires : tie.Need-write-requires
 write-requires c κs = search needs
