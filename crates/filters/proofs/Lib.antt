@@ -7,4 +7,3 @@ pub mod Window
 pub mod Stretches
 pub mod Stored
 pub mod Sliding
-pub mod Book

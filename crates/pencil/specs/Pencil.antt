@@ -2,7 +2,7 @@
 use mathlib.Core.Path.{_≡_}
 use mathlib.Core.Bool.{cond}
 use mathlib.Core.List.{List, [], _∷_, map}
-use Prim.Native.Nat.{ℕ, _-_}
+use Prim.Native.Nat.{ℕ, _+_, _-_}
 use lib.Dec.{eqb}
 use lib.IntN.{ℤ, pos, negsuc}
 use Rattle.integers.specs.Lists.{_‼_, tab}
@@ -39,6 +39,13 @@ whole = map pos
 abbrev at2x12 : List ℤ → List ℕ → List ℤ
 at2x12 x places = at (inside table2x12 x) (map (λ t. t - 6) places)
 
+-- Henderson of 16,796 at place c: there, next to it and six places away
+abbrev hendersonAround : ℕ → List ℤ
+hendersonAround c = at (filter tableHenderson (one c 16_796)) (c ∷ (c - 1) ∷ (c + 1) ∷ (c - 6) ∷ (c + 6) ∷ [])
+
+abbrev hendersonWeights : List ℤ
+hendersonWeights = pos 4032 ∷ pos 3600 ∷ pos 3600 ∷ negsuc 324 ∷ negsuc 324 ∷ []
+
 abbrev exampleGroup : List ℕ
 exampleGroup = 0 ∷ 0 ∷ 0 ∷ 1 ∷ []
 
@@ -47,7 +54,9 @@ pencil =
     -- 2×12, 24,000 grains at one place, else 0: 2,000 there, 1,000 at six away
     (at2x12 (one 30 24_000) (30 ∷ 24 ∷ 36 ∷ []) gives whole (2000 ∷ 1000 ∷ 1000 ∷ []))
     -- Henderson, 16,796 at one place with at least twelve months on each side, else 0: 4,032 there, 3,600 next, -325 at six away
-    ∷ (at (filter tableHenderson (one 30 16_796)) (30 ∷ 29 ∷ 31 ∷ 24 ∷ 36 ∷ []) gives (pos 4032 ∷ pos 3600 ∷ pos 3600 ∷ negsuc 324 ∷ negsuc 324 ∷ []))
+    ∷ (hendersonAround 30 gives hendersonWeights)
+    ∷ (hendersonAround 12 gives hendersonWeights)
+    ∷ (hendersonAround 59 gives hendersonWeights)
     -- 3×3, run ending in 27,000, else 0: last three results 3,000, 7,000, 11,000. the run of places 11, 23, .. ends with 35, 47, 59, 71
     ∷ (at (filter table3x3 (one 71 27_000)) (47 ∷ 59 ∷ 71 ∷ []) gives whole (3000 ∷ 7000 ∷ 11_000 ∷ []))
     -- 3×5, run ending in 60,000, else 0: last four 4,000, 9,000, 15,000, 17,000

@@ -1,2 +1,3 @@
--- The crate's root.
+-- The crate's root. Contracts has what reading the input leaves.
 pub mod Printed
+pub mod Contracts

@@ -26,11 +26,8 @@ enum-told c = search needs
 put-unread-requires : tie.Need-put-unread-requires
 put-unread-requires c κs = search needs
 
-same-length : tie.Need-same-length
-same-length c = search needs
-
 returns : tie.Need-returns
-returns c = stored-eq (unread-printed (c .before .before .before .before .before .before .before .before .read .ensures) refl refl _ (c .before .before .before .before .enum-told .given .1)) (c .before .before .put-unread .ensures)
+returns c = stored-eq (unread-printed (c .before .before .before .before .before .before .read .ensures) refl refl _ (c .before .before .enum-told .given .1)) (c .put-unread .ensures)
 
 array-share-prefix-figures : tie.Need-array-share-prefix-figures
 array-share-prefix-figures c = figures-room (c .before .before .before .before .before .before .read .ensures) refl refl _ _ (c .before .before .answer .given .1)
@@ -39,13 +36,14 @@ slice-aggregate-put-series : tie.Need-slice-aggregate-put-series
 slice-aggregate-put-series c = sym (months-read (c .before .before .before .before .before .before .before .read .ensures) refl refl _ _ (c .before .before .before .answer .given .1))
 
 put-series-requires : tie.Need-put-series-requires
-put-series-requires c κs = (c .before .before .before .before .before .before .before .before .before .before .before .before .pre, omega (arith, months-read (c .before .before .before .before .before .before .before .read .ensures) refl refl _ _ (c .before .before .before .answer .given .1), months-fit (c .before .before .before .before .before .before .before .read .ensures) refl refl _ _ (c .before .before .before .answer .given .1)))
-
-same-length-2 : tie.Need-same-length-2
-same-length-2 c = search needs
+put-series-requires c κs = (
+  search needs,
+  omega
+      (arith, months-read (c .before .before .before .before .before .before .before .read .ensures) refl refl _ _ (c .before .before .before .answer .given .1), months-fit (c .before .before .before .before .before .before .before .read .ensures) refl refl _ _ (c .before .before .before .answer .given .1)),
+)
 
 returns-2 : tie.Need-returns-2
-returns-2 c = stored-eq (series-printed (c .before .before .before .before .before .before .before .before .before .before .read .ensures) refl refl _ _ (c .before .before .before .before .before .before .answer .given .1)) (c .before .before .put-series .ensures)
+returns-2 c = stored-eq (series-printed (c .before .before .before .before .before .before .before .before .read .ensures) refl refl _ _ (c .before .before .before .before .answer .given .1)) (c .put-series .ensures)
 
 pub put-file-spec : {M : Type 1} → statement M
 put-file-spec =
@@ -57,10 +55,8 @@ put-file-spec =
     enum-known-answer
     enum-told
     put-unread-requires
-    same-length
     returns
     array-share-prefix-figures
     slice-aggregate-put-series
     put-series-requires
-    same-length-2
     returns-2)
