@@ -3,7 +3,7 @@ ghost use mathlib.Core.Path.{_≡_};
 ghost use Prim.Native.Nat.{_+_, _<_, _≤_};
 ghost use lib.ListN.{length};
 ghost use lib.Seq.{sets};
-ghost use Rattle.little_endian.specs.Bytes.{bytesOf, Number, signed, word};
+ghost use Rattle.little_endian.specs.Bytes.{AreBytes, bytesOf, Number, signed, word};
 
 // The number that bytes make: the last byte is the highest.
 pub fn number_at(bytes: &[u8], at: usize, width: usize) -> u32
@@ -23,6 +23,17 @@ fn wide(b: u8) -> u32
     ensures { λ r. ⌜ (r ≡ b) × (r < 256) ⌝ }
 {
     b as u32
+}
+
+// Every lent slice of bytes is a byte string: the type gives it, and this function shows it by looking. Nothing has to call it.
+pub fn are_bytes(bytes: &[u8])
+    ensures { λ _. ⌜ AreBytes (now (bytes .entry)) ⌝ }
+{
+    let mut i = 0;
+    while i < bytes.len() {
+        let _byte = wide(bytes[i]);
+        i += 1;
+    }
 }
 
 // Writes a number in so many bytes.
