@@ -1,4 +1,5 @@
--- The book's 2×12 (000, tables B1 and B2, October 1985 to March 1995, in thousandths), to the last printed digit and by computation.
+-- 2×12 as Ladiray and Quenneville's book prints it (tables B1 and B2, October 1985 to March 1995, in thousandths), to the last printed digit and
+-- by computation.
 use mathlib.Core.Path.{_≡_, refl}
 use mathlib.Core.List.{List, [], _∷_, map}
 use Prim.Native.Nat.{ℕ}
