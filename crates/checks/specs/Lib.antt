@@ -1,3 +1,3 @@
--- Document 01, "Refusal sheet": what decomposing answers. Contracts has what the checks find, for the passes.
+-- METHOD 8: what decomposing answers. Contracts has what the checks find, for the passes.
 pub mod Answer
 pub mod Contracts

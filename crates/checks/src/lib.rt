@@ -1,4 +1,4 @@
-// Document 01, "Refusal sheet": rows 1 to 5 of decomposing.
+// METHOD 8.2: the checks of decomposing, rows 1 to 5.
 ghost use mathlib.Core.Path.{_≡_};
 ghost use Prim.Native.Nat.{_≤_};
 ghost use Rattle.refusals.specs.Limits.{mostMonths};
@@ -19,7 +19,7 @@ pub struct Lengths {
     pub scratch: usize,
 }
 
-// Row 4: whether each lent slice has its length for n months.
+// Row 4 (METHOD 8.3): whether each lent slice has its length for n months.
 fn fitting(n: usize, lent: Lengths) -> bool
     requires { ⌜ n ≤ mostMonths ⌝ }
     ensures { λ r. ⌜ r ≡ fitting n lent ⌝ }

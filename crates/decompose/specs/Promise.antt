@@ -1,4 +1,4 @@
--- Document 01, "Refusal sheet": what decomposing answers, and what it leaves in the lent slices, for all inputs.
+-- METHOD 8 and 10: what decomposing answers, and what it leaves in the lent slices, for all inputs.
 use mathlib.Core.Path.{_≡_}
 use mathlib.Core.Bool.{cond}
 use mathlib.Core.List.{List, _++_}
@@ -15,7 +15,7 @@ use Rattle.checks.specs.Answer.{scratchFor, answerFor}
 use Rattle.decompose.specs.declared.Decomposed.{Decomposed}
 use Rattle.decompose.specs.declared.Decomposed.the-variants.{Tables, Refused}
 
--- the lent slices
+-- METHOD 8.3: the lent slices
 pub record Slices : Type 0 where
   pub d10 : List ℤ
   pub d11 : List ℤ
@@ -38,21 +38,21 @@ lengthsOf s =
       scratch = length (s .scratch);
     }
 
--- what an answer says: tables, or a refusal's number and place on the sheet
+-- what an answer says: tables, or a refusal's number and place on the sheet (METHOD 8.1)
 abbrev pub says : Decomposed → Answer Unit
 says Tables = success tt
 says (Refused r) = refusalOf r
 
--- decomposing checks 1, 2, 3, 4, 5, 6; the first that applies is the answer
+-- METHOD 8.2: the first row that applies, else the tables; the slices count by their lengths alone
 unfoldable pub answer : ℕ → List ℤ → Slices → Answer Unit
 answer start figures lent = answerFor start figures (lengthsOf lent)
 
--- the first 8 n entries zero, the rest untouched
+-- METHOD 8.4: the scratch with its first 8 n entries zero and the rest of it as it was
 unfoldable pub zeroed : ℕ → List ℤ → List ℤ
 zeroed n scratch = tab (scratchFor n) (λ _. pos 0) ++ drop (scratchFor n) scratch
 
--- what the slices hold after an answer: the tables and a zeroed scratch; a refusal changes no lent slice, except that 6 leaves the
--- scratch as success does
+-- METHOD 8.4: what the slices hold after an answer: the tables, the weights and a zeroed scratch; a refusal touches none of them, but that 6 would
+-- leave the scratch as success does
 unfoldable pub after : Answer Unit → ℕ → List ℤ → Slices → Slices
 after (success _) start figures s =
     record {
@@ -69,14 +69,14 @@ after (refusal number place) start figures s =
     (record { d10 = s .d10; d11 = s .d11; d12 = s .d12; d13 = s .d13; b17 = s .b17; c17 = s .c17; scratch = zeroed (length figures) (s .scratch) })
     s
 
--- the promise of decomposing: of its answer r and of the slices as lent and as left
+-- METHOD 10, the promise of decomposing: of its answer r and of the slices as lent and as left
 pub record Promise (start : ℕ) (figures : List ℤ) (lent : Slices) (r : Decomposed) (left : Slices) : Type 0 where
   pub answered : says r ≡ answer start figures lent
   pub slices : left ≡ after (answer start figures lent) start figures lent
-  -- demand 3: where the answer is tables, at each t from 0 to n - 1
+  -- METHOD 10.3 with 6.4: where the answer is tables, in each month
   pub near : says r ≡ success tt → (t : ℕ) → t < length figures
       → NearAt (B1 start figures) (D1 start figures) (left .d10) (left .d11) (left .d12) (left .d13) t
-  -- and what is said of each pass, on its X as it stands, B1, C1, D1: facts of the rules, which hold whatever the program leaves
+  -- METHOD 6.3, of each pass on its X, which is B1, C1 or D1: facts of the rules, which hold whatever the program leaves
   pub pass-b : PassNear (B1 start figures)
   pub pass-c : PassNear (C1 start figures)
   pub pass-d : PassNear (D1 start figures)

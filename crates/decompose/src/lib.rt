@@ -1,4 +1,4 @@
-// Document 01, "Three passes" and "Refusal sheet": a series into its tables. The tables that the caller lends are the work space.
+// METHOD 4 and 8: a series into its tables. The tables that the caller lends are the work space.
 ghost use mathlib.Core.Path.{_≡_};
 ghost use Prim.Native.Nat.{_≤_};
 ghost use lib.ListN.{length};
@@ -20,7 +20,7 @@ pub enum Decomposed {
     Refused(Refusal),
 }
 
-// A pass on x and the weights w of its irregular; x becomes B1 less the corrections. a, b, t and s are work space.
+// METHOD 4.1 and 4.2: a pass on x and the weights w of its irregular; x becomes B1 less the corrections. a, b, t and s are work space.
 fn correct_extremes(
     figures: &[i32],
     start: u8,
@@ -68,7 +68,7 @@ fn corrected_series(
     correct_extremes(figures, start, x, a, b, t, s, c17)
 }
 
-// D10 to D13 from the figures and D1, which is x.
+// METHOD 4.3: D10 to D13 from the figures and D1, which is x.
 fn final_tables(
     figures: &[i32],
     x: &[i64],
@@ -87,7 +87,7 @@ fn final_tables(
     series::minus(d11, d12, d13);
 }
 
-// The first 8n entries of the scratch become 0.
+// METHOD 8.4: the first 8n entries of the scratch become 0.
 fn clear(scratch: &mut [i64], n: usize)
     requires { ⌜ (n ≤ mostMonths) × (scratchFor n ≤ length (now scratch)) ⌝ }
     ensures { λ _. ⌜ now (scratch .exit) ≡ zeroed n (now (scratch .entry)) ⌝ }
@@ -134,7 +134,7 @@ fn three_passes(
     Decomposed::Tables
 }
 
-// A series of figures from a start month into D10 to D13 and the weights B17 and C17, or a refusal.
+// A series of figures from a start month into D10 to D13, B17 and C17, or a refusal (METHOD 8.2).
 pub fn decompose(
     figures: &[i32],
     start: u8,

@@ -84,11 +84,11 @@ length-weightsBytes : (weights : List ℕ) → length (weightsBytes weights) ≡
 unfolding weightsBytes
 length-weightsBytes weights = length-array 2 (λ w. w) weights
 
--- the sizes of a series
+-- the header of a series
 abbrev pub sizes : SeriesWithWeights → List ℕ
 sizes s = header (length (s .figures)) (s .start) monthsOfYear
 
--- the sizes, the figures and the weights, stored one after the other
+-- the header, the figures and the weights, stored one after the other
 abbrev pub putFile : SeriesWithWeights → List ℕ → List ℕ
 putFile s out = sets (sets (sets out 0 (sizes s)) headerLength (figuresBytes (s .figures))) (weightsStart (length (s .figures))) (weightsBytes (s .weights))
 

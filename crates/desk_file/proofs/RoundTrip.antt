@@ -1,4 +1,4 @@
--- The round trips of the desk file. They speak of the promises that `write` and `read` keep (`WriteDone` and `ReadDone` are their contracts).
+-- METHOD 7.4, the round trips. They speak of the promises that `write` and `read` keep (`WriteDone` and `ReadDone` are their contracts).
 use Prim.Native.Nat.{ℕ, _≤_}
 use mathlib.Core.Path.{_≡_, sym, ap, subst, _∙_}
 use mathlib.Core.List.{List, _++_}
@@ -31,7 +31,7 @@ meant file nf nw a b h =
     let ok = accepted-file file nf nw (a .count) (a .start) h in
     file-again file b (a .count) (ok .count) (ok .period) (ok .size)
 
--- one byte string for each series with weights: two accepted byte strings that mean the same are the same
+-- a series with weights has one byte string: two accepted byte strings that mean the same are the same
 pub one-file : (file file′ : List ℕ) (figuresRoom weightsRoom figuresRoom′ weightsRoom′ : ℕ) (a a′ : Accepted)
     → AreBytes file
     → AreBytes file′
@@ -41,7 +41,7 @@ pub one-file : (file file′ : List ℕ) (figuresRoom weightsRoom figuresRoom′
     → file ≡ file′
 one-file file file′ _ _ _ _ a a′ b b′ h h′ e = sym (meant file _ _ a b h) ∙ ap fileBytes e ∙ meant file′ _ _ a′ b′ h′
 
--- and one series with weights for each byte string: two that give the same bytes are the same
+-- and a byte string means one series with weights: two that give the same bytes are the same
 pub same-bytes : (s s′ : SeriesWithWeights) → Storable s → Storable s′ → fileBytes s ≡ fileBytes s′ → s ≡ s′
 same-bytes s s′ a a′ e = sym (file-back s a) ∙ ap seriesIn e ∙ file-back s′ a′
 

@@ -1,4 +1,4 @@
--- Document 01, "Desk file": the bytes of a series with weights, and what a byte string means.
+-- METHOD 7.1, the desk file: the bytes of a series with weights, and what a byte string means.
 use Prim.Native.Nat.{ℕ, _+_, _*_}
 use mathlib.Core.List.{List, _++_}
 use lib.IntN.{ℤ}
@@ -16,8 +16,8 @@ pub record SeriesWithWeights : Type 0 where
 abbrev pub series : ℕ → List ℤ → List ℕ → SeriesWithWeights
 series start figures weights = record { start = start; figures = figures; weights = weights }
 
--- ---- a series as bytes
--- the sizes: the count in 2 bytes, the start month in 1, the period in 1
+-- ---- METHOD 7.1: a series as bytes
+-- the header: the count in 2 bytes, the start month in 1, the period in 1
 unfoldable pub header : ℕ → ℕ → ℕ → List ℕ
 header count start period = bytesOf 2 count ++ bytesOf 1 start ++ bytesOf 1 period
 
@@ -29,12 +29,12 @@ figuresBytes figures = array 4 word figures
 unfoldable pub weightsBytes : List ℕ → List ℕ
 weightsBytes weights = array 2 (λ w. w) weights
 
--- the file: the sizes, the period being always 12, then the two arrays
+-- the file: the header, with period 12, then the figures and the weights
 unfoldable pub fileBytes : SeriesWithWeights → List ℕ
 fileBytes s = header (length (s .figures)) (s .start) monthsOfYear ++ figuresBytes (s .figures) ++ weightsBytes (s .weights)
 
 -- ---- where its parts start
--- the sizes take 2 + 1 + 1 bytes: the figures start there
+-- the header takes 2 + 1 + 1 bytes: the figures start there
 abbrev pub headerLength : ℕ
 headerLength = 4
 
@@ -46,8 +46,8 @@ weightsStart n = headerLength + 4 * n
 abbrev pub fileLength : ℕ → ℕ
 fileLength n = weightsStart n + 2 * n
 
--- ---- bytes as a series
--- the sizes in a byte string: the count in the 2 bytes from place 0 on
+-- ---- METHOD 7.1: bytes as a series
+-- the header of a byte string: the count in the 2 bytes from place 0 on
 unfoldable pub countIn : List ℕ → ℕ
 countIn file = numberAt file 0 2
 

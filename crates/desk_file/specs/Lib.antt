@@ -1,5 +1,5 @@
--- The crate's root: the desk file (File), what reading and writing promise (ReadFile, WriteFile),
--- and the words of the theorems on both together (RoundTrips).
+-- METHOD 7: the desk file (File), what reading and writing promise (ReadFile, WriteFile), and the words of the theorems on both together
+-- (RoundTrips).
 pub mod File
 pub mod ReadFile
 pub mod WriteFile

@@ -1,4 +1,4 @@
--- The words of the theorems of proofs/RoundTrip.antt:
+-- METHOD 7.4: the words of the theorems of proofs/RoundTrip.antt:
 -- read-again: what `write` wrote, `read` reads again, and it is the same series with weights.
 -- write-again: what `read` accepted, `write` writes again, and it is the same byte string.
 -- same-bytes: two series with weights that can be stored and have the same bytes are the same.

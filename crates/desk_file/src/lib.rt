@@ -1,4 +1,4 @@
-// The desk file of document 01: reading and writing a series with its weights.
+// METHOD 7, the desk file: reading and writing a series with its weights.
 use refusals::Refusal;
 
 mod arrays;
@@ -8,7 +8,7 @@ mod writer;
 pub use reader::read;
 pub use writer::write;
 
-// Bytes of the sizes, of the count among them, of a figure, of a weight, and of a month in both arrays.
+// Bytes of the header, of the count in it, of a figure, of a weight, and of a month in both arrays.
 const HEADER: usize = 4;
 
 const COUNT: usize = 2;

@@ -1,4 +1,4 @@
-// Reading a desk file: the answer first, and where it is a series, the slices.
+// METHOD 7.2, reading a desk file: the answer first, and where it is a series, the slices.
 use crate::COUNT;
 use crate::FIGURE;
 use crate::HEADER;
@@ -13,7 +13,7 @@ ghost use mathlib.Core.Path.{_≡_};
 ghost use lib.ListN.{length};
 ghost use Rattle.desk_file.specs.ReadFile.{readAnswer, ReadDone, readSays};
 
-// What reading answers, by the file and the lengths of the two slices.
+// What reading answers, by the file and the lengths of the two slices: the checks in the order of METHOD 8.2.
 fn read_answer(file: &[u8], figures: &[i32], weights: &[u16]) -> Reading
     ensures { λ r. ⌜ readSays r ≡ readAnswer (now (file .entry)) (length (now (figures .entry))) (length (now (weights .entry))) ⌝ }
 {

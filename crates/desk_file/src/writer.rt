@@ -1,4 +1,4 @@
-// Writing a desk file: the answer first, and where it is a length, the bytes.
+// METHOD 7.3, writing a desk file: the answer first, and where it is a length, the bytes.
 use crate::COUNT;
 use crate::FIGURE;
 use crate::HEADER;
@@ -17,7 +17,7 @@ ghost use Rattle.refusals.specs.Limits.{monthsOfYear, mostMonths};
 ghost use Rattle.desk_file.specs.File.{header, headerLength, series};
 ghost use Rattle.desk_file.specs.WriteFile.{writeAnswer, WriteDone, writeSays};
 
-// What writing answers, by the series and the length of the output.
+// What writing answers, by the series and the length of the output: the checks in the order of METHOD 8.2.
 fn write_answer(figures: &[i32], start: u8, weights: &[u16], out: &[u8]) -> Writing
     ensures { λ r. ⌜ writeSays r ≡ writeAnswer (series start (now (figures .entry)) (now (weights .entry))) (length (now (out .entry))) ⌝ }
 {
@@ -41,7 +41,7 @@ fn write_answer(figures: &[i32], start: u8, weights: &[u16], out: &[u8]) -> Writ
     Writing::Length(size)
 }
 
-// Writes the sizes.
+// Writes the header.
 fn put_header(out: &mut [u8], count: usize, start: u8)
     requires { ⌜ (headerLength ≤ length (now out)) × (count ≤ mostMonths) ⌝ }
     ensures { λ _. ⌜ now (out .exit) ≡ sets (now (out .entry)) 0 (header count start monthsOfYear) ⌝ }

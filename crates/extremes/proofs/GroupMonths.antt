@@ -1,4 +1,4 @@
--- The groups are those of document 01's words and of its example.
+-- The groups are those of METHOD 5.2 and of its example.
 use Prim.Native.Nat.{ℕ, _+_, _-_, _≤_, _<_}
 use mathlib.Core.Path.{refl}
 use mathlib.Core.Logic.{_↔_}
@@ -7,13 +7,14 @@ use Rattle.integers.specs.Lists.{tabFrom, tab}
 use Rattle.extremes.specs.Years.{yearOf, years, yearStart, months, groupAround, centre, group, BegunYears}
 use Rattle.extremes.proofs.YearLaws.{from-start, before-start}
 
--- a month t of the series stands between the two starts that `groupAround` takes, if and only if its year is year c, one of the two before or one of the two after
+-- a month t of the series stands between the two starts that `groupAround` takes, if and only if its year is year c, one of the two before or one
+-- of the two after
 pub group-words : (start period n c t : ℕ) → 1 ≤ start → start ≤ period → 2 ≤ c → t < n
     → (yearStart start period n (c - 2) ≤ t × t < yearStart start period n (c + 3)) ↔ (c ≤ yearOf start period t + 2 × yearOf start period t ≤ c + 2)
 group-words start period n c t h k l m = let a = from-start (c - 2) t h k n m in let b = before-start (c + 3) t h k n m in
     (λ w. omega (arith, a .0 (w .0), b .0 (w .1)), λ w. (a .1 (omega arith), b .1 (omega arith)))
 
--- "Start month 10 with n 114", by computation
+-- 114 months from start month 10, by computation
 pub begun-years : BegunYears
 unfolding tabFrom tab yearOf years yearStart months groupAround centre group
 begun-years = record { eleven = refl; first = refl; second = refl; last-but-one = refl; last = refl }

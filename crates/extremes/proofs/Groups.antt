@@ -32,7 +32,7 @@ module _ (l : List ℕ) {start period n : ℕ} (e : length l ≡ n) (s : Calenda
       let c = centre (years start period n) y in let i = centre-inside s y in let r = group-range s c (i .0) (i .1) in
       omega (arith, r, ap length (group-at y), length-months l (yearStart start period n (c - 2)) (yearStart start period n (c + 3)) (omega (arith, r)))
 
-  -- row 6 never applies: the smallest month of a group is not above the first spread, so it is not dropped
+  -- METHOD 5.8, row 6 never applies: the smallest size of a group does not exceed its first spread, and its month stays
   pub group-remains : (y : ℕ) → length (remaining (group start period l y)) ≡ 0 → ⊥
   group-remains y = some-remain (group start period l y) (group-some y)
 

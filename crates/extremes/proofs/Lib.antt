@@ -1,5 +1,5 @@
 -- Laws of the definitions, cited by the proofs of the functions. WeighingLaws is for callers too; GroupMonths shows that the groups are those of
--- document 01.
+-- METHOD 5.2.
 pub mod ListLaws
 pub mod HeldSizes
 pub mod YearLaws

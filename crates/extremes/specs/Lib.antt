@@ -1,4 +1,4 @@
--- Document 01, "Spread and weights", and the correction of "Three passes".
+-- METHOD 5: years and groups, spreads, weights and corrections. Contracts has what the functions ask, and what `weights` promises.
 pub mod Years
 pub mod Spreads
 pub mod Weighing

@@ -1,4 +1,4 @@
--- Document 01, "Spread and weights": whole units, both spreads and dropping.
+-- METHOD 5.3 and 5.4: sizes in whole units, both spreads of a group, and dropping.
 use Prim.Native.Nat.{ℕ, _+_, _*_, _/_}
 use mathlib.Core.Bool.{cond}
 use mathlib.Core.List.{List, [], _∷_}
@@ -12,33 +12,32 @@ use Rattle.refusals.specs.Limits.{unit}
 use Rattle.extremes.specs.declared.spreads.Spread.{Spread}
 use Rattle.extremes.specs.declared.spreads.Spread.the-variants.{Of, Nothing}
 
--- "The irregular is first rounded to whole units": a half goes away from zero, as for grains (the paper does not say; DECISIONS 1). The size of a
--- month's irregular, and the sizes of all months
+-- METHOD 5.3: a month's irregular, rounded to whole units (1.4; DECISIONS 1), without its sign; and the sizes of all months
 unfoldable pub sizeOf : ℤ → ℕ
 sizeOf z = natAbs (awayFromZero z unit)
 
 unfoldable pub sizesOf : List ℤ → List ℕ
 sizesOf x = tab (length x) (λ t. sizeOf (x ‼ t))
 
--- "sum of squares"
+-- the squares of the sizes, summed
 unfoldable pub squares : List ℕ → ℕ
 squares [] = 0
 squares (a ∷ g) = a * a + squares g
 
--- "The first spread is the whole part of the square root of the whole part of (sum of squares over count)"; the root is a whole number
+-- METHOD 5.4: a spread. The mean of the squares is cut to a whole number, and so is its root (5.5)
 unfoldable pub spread : List ℕ → ℕ
 spread g = root (squares g / length g)
 
--- "Months with twice their size above" a limit "are dropped": those that stay
+-- METHOD 5.4, dropping: the months that stay, twice whose size does not exceed a limit
 unfoldable pub keep : ℕ → List ℕ → List ℕ
 keep limit [] = []
 keep limit (a ∷ g) = cond (ltb limit (2 * a)) (keep limit g) (a ∷ keep limit g)
 
--- the limit is "five times the first spread"
+-- METHOD 5.4: the limit is five times the first spread
 unfoldable pub remaining : List ℕ → List ℕ
 remaining g = keep (5 * spread g) g
 
--- "and the spread is worked again in the same way". (A group is never emptied: proofs/WeighingLaws.antt, never-emptied)
+-- METHOD 5.4: the second spread, that of the months that stay. (A group is never emptied, 5.8: proofs/WeighingLaws.antt, never-emptied)
 unfoldable pub secondSpread : List ℕ → ℕ
 secondSpread g = spread (remaining g)
 

@@ -1,4 +1,4 @@
--- Document 01, "Spread and weights": the weights; "Three passes": the correction; "Refusal sheet": row 6.
+-- METHOD 5.6: the weights; 5.7: the correction; row 6 of 8.1: a group that dropping would empty.
 use Prim.Native.Nat.{ℕ, zero, suc, _*_, _-_}
 use mathlib.Core.Bool.{Bool, true, false, cond}
 use mathlib.Core.List.{List}
@@ -13,9 +13,9 @@ use Rattle.extremes.specs.Spreads.{sizesOf, remaining, secondSpread}
 use Rattle.extremes.specs.declared.Weighed.{Weighed}
 use Rattle.extremes.specs.declared.Weighed.the-variants.{Weights, EmptyGroup}
 
--- "σ the second spread of the month's year and a the size of its irregular". In turn:
--- "σ zero: weight 1,000 if a is zero, else 0"; "2a above 5σ: 0"; "2a below 3σ: 1,000";
--- "else 2,500 less 1,000a/σ, the quotient rounded to nearest, a half up"
+-- METHOD 5.6: the weight of a month of size a, σ being the second spread that its year uses. The first case that fits decides:
+-- σ = 0: 1,000 where a = 0, and 0 where it is not; 2a > 5σ: 0; 2a < 3σ: 1,000;
+-- otherwise 2,500 - 1,000a/σ, the quotient rounded first, a half up
 unfoldable pub weight : ℕ → ℕ → ℕ
 weight σ a =
     cond (eqb σ 0) (cond (eqb a 0) fullWeight 0)
@@ -28,7 +28,7 @@ unfoldable pub weightBy : ℕ → List ℕ → ℕ → ℕ
 weightBy σ sizes t = weight σ (getD sizes t 0)
 
 module _ (start period : ℕ) where
-  -- by the second spread of its year
+  -- METHOD 5.6: by the second spread that its year uses
   unfoldable pub monthWeight : List ℕ → ℕ → ℕ
   monthWeight sizes t = weightBy (secondSpread (group start period sizes (yearOf start period t))) sizes t
 
@@ -36,11 +36,11 @@ module _ (start period : ℕ) where
   unfoldable pub weightsBy : List ℕ → List ℕ
   weightsBy sizes = tab (length sizes) (monthWeight sizes)
 
-  -- the weights of an irregular
+  -- METHOD 4.1 and 4.2: the weights of an irregular
   unfoldable pub weightsOf : List ℤ → List ℕ
   weightsOf x = weightsBy (sizesOf x)
 
-  -- row 6, "dropping leaves a group empty": some year below k has such a group
+  -- METHOD 8.1, row 6: dropping would empty the group of some year below k, or of any year (never: 5.8)
   unfoldable pub emptiedBelow : ℕ → List ℕ → Bool
   emptiedBelow zero sizes = false
   emptiedBelow (suc k) sizes = cond (eqb (length (remaining (group start period sizes k))) 0) true (emptiedBelow k sizes)
@@ -55,6 +55,6 @@ module _ (start period : ℕ) where
   unfoldable pub answerOf : List ℤ → Weighed
   answerOf x = answerBy (sizesOf x)
 
--- "B13 times (1,000 less its weight) over 1,000", rounded once to a grain
+-- METHOD 5.7: the correction of a month: its irregular z times 1,000 less its weight w, over 1,000, rounded to a grain
 unfoldable pub correctionOf : ℤ → ℕ → ℤ
 correctionOf z w = toGrain (z *ℤ pos (fullWeight - w)) fullWeight

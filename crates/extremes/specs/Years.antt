@@ -1,4 +1,4 @@
--- Document 01, "Spread and weights": years and their groups. Months t and years count from 0, the start month from 1. A year has `period` months.
+-- METHOD 5.1 and 5.2: years and their groups. Months t and years count from 0, the start month from 1. A year has `period` months.
 use Prim.Native.Nat.{ℕ, _+_, _*_, _-_, _/_, min, max}
 use mathlib.Core.Path.{_≡_}
 use mathlib.Core.List.{List}
@@ -11,32 +11,34 @@ use Rattle.refusals.specs.Limits.{monthsOfYear}
 unfoldable pub months : ℕ → ℕ → List ℕ → List ℕ
 months lo hi sizes = slice lo hi sizes
 
--- "Years 0 and 1 use year 2's group, the last two years that of the year before them": of so many years, the one whose group year y uses
+-- METHOD 5.2: of so many years, the one whose group year y uses: its own, or that of year 2 for years 0 and 1, or that of the third year from the
+-- end for the last two
 unfoldable pub centre : ℕ → ℕ → ℕ
 centre count y = min (max y 2) (count - 3)
 
 module _ (start period : ℕ) where
-  -- "Years are calendar years from the start month": the year of month t
+  -- METHOD 5.1: the calendar year of month t
   unfoldable pub yearOf : ℕ → ℕ
   yearOf t = (start - 1 + t) / period
 
-  -- "the first and last may be incomplete": how many years n months touch; a begun year counts
+  -- METHOD 5.1: how many years n months touch; one just begun or cut off at its start counts as any other
   unfoldable pub years : ℕ → ℕ
   years n = yearOf (n - 1) + 1
 
-  -- the first month that a series of n months has in year y; n where year y comes after its end
+  -- METHOD 5.2: the first month that a series of n months has in year y; n where year y comes after its end
   unfoldable pub yearStart : ℕ → ℕ → ℕ
   yearStart n y = min n (period * y - (start - 1))
 
-  -- "A year's group is the months the series has in that year, the two before and the two after"
+  -- METHOD 5.2: the group of year y: the months of five years, two before it and two after it, as far as the series has them
   unfoldable pub groupAround : List ℕ → ℕ → List ℕ
   groupAround sizes y = months (yearStart (length sizes) (y - 2)) (yearStart (length sizes) (y + 3)) sizes
 
+  -- METHOD 5.2: the group that year y uses
   unfoldable pub group : List ℕ → ℕ → List ℕ
   group sizes y = groupAround sizes (centre (years (length sizes)) y)
 
--- "Start month 10 with n 114: eleven years, first and last groups of 51 months" (shown in proofs/GroupMonths.antt),
--- those of the second year and of the last but one too
+-- METHOD 5.2: 114 months from start month 10 touch eleven years, and the groups that the first two and the last two years use have 51 months (shown
+-- in proofs/GroupMonths.antt)
 pub record BegunYears : Type 0 where
   pub eleven : years 10 monthsOfYear 114 ≡ 11
   pub first : length (group 10 monthsOfYear (tab 114 (λ t. t)) 0) ≡ 51

@@ -1,4 +1,4 @@
-// Years of so many months, and the months that a group serves. Months and years count from 0, the start month from 1.
+// METHOD 5.1 and 5.2: years of so many months, and the months that a group serves. Months and years count from 0, the start month from 1.
 ghost use mathlib.Core.Path.{_≡_};
 ghost use Prim.Native.Nat.{_≤_};
 ghost use Rattle.extremes.specs.Years.{years, yearStart};

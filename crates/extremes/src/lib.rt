@@ -1,4 +1,4 @@
-// Spreads, weights and corrections: document 01, "Spread and weights" and "Three passes". This file has what other crates call.
+// METHOD 5: spreads, weights and corrections. This file has what other crates call.
 ghost use mathlib.Core.Path.{_≡_};
 ghost use Prim.Native.Nat.{_≤_};
 ghost use Rattle.integers.specs.Sizes.{_within_};
@@ -38,7 +38,7 @@ pub fn weights(
     weigh_groups(sizes, sums, start as usize, period as usize, out)
 }
 
-// The irregular times (1,000 less its weight) over 1,000.
+// METHOD 5.7: the correction of a month, by its irregular and its weight.
 pub fn correction(irregular: i64, weight: u16) -> i64
     requires { ⌜ (irregular within largestIrregular) × (weight ≤ fullWeight) ⌝ }
     ensures { λ r. ⌜ r ≡ correctionOf irregular weight ⌝ }

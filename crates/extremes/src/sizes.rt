@@ -1,4 +1,4 @@
-// The sizes of an irregular in whole units, and the running sums of their squares. Slices of signed numbers hold both.
+// METHOD 5.3: the sizes of an irregular in whole units, and the running sums of their squares. Slices of signed numbers hold both.
 ghost use mathlib.Core.Path.{_≡_};
 ghost use mathlib.Core.List.{map};
 ghost use Prim.Native.Nat.{_-_, _≤_, _<_};

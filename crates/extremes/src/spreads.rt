@@ -1,4 +1,4 @@
-// Both spreads of a group: the first over all its months, the second over those that dropping leaves.
+// METHOD 5.4: both spreads of a group: the first over all its months, the second over those that dropping leaves.
 ghost use mathlib.Core.Path.{_≡_};
 ghost use Prim.Native.Nat.{_+_, _≤_};
 ghost use lib.ListN.{length};

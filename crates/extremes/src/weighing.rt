@@ -1,4 +1,4 @@
-// The weight of a month by the second spread of its group, and the weights of all months, group by group.
+// METHOD 5.6: the weight of a month by the second spread of its group, and the weights of all months, group by group.
 ghost use mathlib.Core.Path.{_≡_};
 ghost use Prim.Native.Nat.{_≤_};
 ghost use lib.ListN.{length};

@@ -1,5 +1,4 @@
-// Document 01, "Three passes": what is worked from the figures month by month. B1 is never stored but as X: it is the figures times 1,000 wherever
-// it is wanted.
+// METHOD 4: what is worked from the figures month by month. B1 is never stored but as X: it is the figures times 1,000 wherever it is wanted.
 ghost use mathlib.Core.Path.{_≡_};
 ghost use Prim.Native.Nat.{_<_};
 ghost use lib.ListN.{length, getD};

@@ -1,4 +1,4 @@
--- One filter for every table of rows, rounded and exact.
+-- METHOD 2.1: one filter for every table of rows, rounded, and exact (METHOD 6.1).
 use mathlib.Core.List.{List}
 use Prim.Native.Nat.{ℕ, _+_, _*_, _-_, _/_, min}
 use lib.ListN.{length}
@@ -8,9 +8,9 @@ use Rattle.integers.specs.Rounding.{toGrain}
 use Rattle.integers.specs.Sums.{wsum}
 use Rattle.rows.specs.Table.{Table, rowWeight, denominator}
 
--- at place t of n: how many values precede and follow that a row can take, and the row for so many. Each place of a run of six values, which
--- 72 months give, has three on one side; SI1 has runs of five at least, whose places have two on one side, enough for 3×3: no place is short
--- on both sides
+-- METHOD 2.1 and 2.3, at place t of n: how many values precede and follow that a row can take, and the row for so many. Each place of a run of
+-- six values, which 72 months give, has three on one side; SI1 has runs of five at least, whose places have two on one side, enough for 3×3: no
+-- place is short on both sides
 unfoldable pub earlier : Table → ℕ → ℕ
 earlier F t = min (t / F .step) (F .side)
 
@@ -24,18 +24,18 @@ rowAt F n t = earlier F t + (F .side - later F n t)
 unfoldable pub dot : ℕ → (ℕ → ℤ) → List ℤ → ℕ → ℕ → ℤ
 dot m w x from step = wsum m w (λ k. x ‼ (from + k * step))
 
--- the weighted sum of a place by its row
+-- METHOD 2.1: the weighted sum of a place by its row
 unfoldable pub weightedSum : Table → List ℤ → ℕ → ℤ
 weightedSum F x t =
     let n = length x in
     dot (earlier F t + 1 + later F n t) (rowWeight F (rowAt F n t)) x (t - earlier F t * F .step) (F .step)
 
--- over the row's denominator, rounded once to a grain
+-- METHOD 2.1 and 1.3: that sum over the row's denominator, rounded once to a grain
 unfoldable pub valueAt : Table → List ℤ → ℕ → ℤ
 valueAt F x t = toGrain (weightedSum F x t) (denominator F (rowAt F (length x) t))
 
--- as a whole number over L times the denominator of the values. L is a multiple of the denominators of the rows (24, 27, 60; 4,199,000,000 is
--- 250,000 times 16,796 and 4,199 times 1,000,000), so that nothing is rounded or cut
+-- METHOD 6.1: as a whole number over L times the denominator of the values. L is a multiple of the denominators of the rows (24, 27, 60;
+-- 4,199,000,000 is 250,000 times 16,796 and 4,199 times 1,000,000), so that nothing is rounded or cut
 unfoldable pub exactAt : Table → ℕ → List ℤ → ℕ → ℤ
 exactAt F L x t = pos (L / denominator F (rowAt F (length x) t)) *ℤ weightedSum F x t
 
@@ -46,7 +46,7 @@ filter F x = tab (length x) (valueAt F x)
 unfoldable pub exact : Table → ℕ → List ℤ → List ℤ
 exact F L x = tab (length x) (exactAt F L x)
 
--- the filter at the places with `side` values on each side only: place 0 of the result is the first of these
+-- METHOD 2.2: the filter at the places with `side` values on each side only: place 0 of the result is the first of these
 unfoldable pub reach : Table → ℕ
 reach F = F .side * F .step
 

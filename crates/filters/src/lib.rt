@@ -1,4 +1,4 @@
-// Document 01, "Filters": every moving average, by one filter over constant rows.
+// METHOD 2: every moving average, by one filter over constant rows.
 ghost use mathlib.Core.Path.{_≡_};
 ghost use Prim.Native.Nat.{_+_, _*_, _-_, _≤_, _<_, min};
 ghost use lib.ListN.{length};
@@ -107,7 +107,7 @@ fn next_sum(sum: i64, x: &[i64], i: usize) -> i64
     sum + (x[i + 11] + x[i + 12] - (x[i - 1] + x[i]))
 }
 
-// 2x12 at every place with six on each side: out[i] is that of place i + 6. Its row is read for the first of them.
+// METHOD 2.2: 2x12 at every place with six on each side: out[i] is that of place i + 6. Its row is read for the first of them.
 pub fn two_by_twelve(x: &[i64], out: &mut [i64])
     requires { ⌜ Filterable (now x) × (13 ≤ length (now x)) × (length (now out) + 12 ≡ length (now x)) ⌝ }
     ensures { λ _. ⌜ now (out .exit) ≡ inside table2x12 (now (x .entry)) ⌝ }
@@ -120,7 +120,7 @@ pub fn two_by_twelve(x: &[i64], out: &mut [i64])
     }
 }
 
-// 3x3 of each month's run, read at stride twelve.
+// METHOD 2.3: 3x3 of each month's run, read at stride twelve.
 pub fn three_by_three(x: &[i64], out: &mut [i64])
     requires { ⌜ Filterable (now x) × (48 ≤ length (now x)) × (length (now out) ≡ length (now x)) ⌝ }
     ensures { λ _. ⌜ now (out .exit) ≡ filter table3x3 (now (x .entry)) ⌝ }
@@ -131,7 +131,7 @@ pub fn three_by_three(x: &[i64], out: &mut [i64])
     fill_rows(SHAPE_3X3, &ROWS_3X3, x, 3, e, out);
 }
 
-// 3x5 of each month's run, read at stride twelve.
+// METHOD 2.4: 3x5 of each month's run, read at stride twelve.
 pub fn three_by_five(x: &[i64], out: &mut [i64])
     requires { ⌜ Filterable (now x) × (72 ≤ length (now x)) × (length (now out) ≡ length (now x)) ⌝ }
     ensures { λ _. ⌜ now (out .exit) ≡ filter table3x5 (now (x .entry)) ⌝ }
@@ -142,7 +142,7 @@ pub fn three_by_five(x: &[i64], out: &mut [i64])
     fill_rows(SHAPE_3X5, &ROWS_3X5, x, 4, e, out);
 }
 
-// Henderson's 13 terms, with Musgrave's ends.
+// METHOD 2.5 and 2.6: Henderson's 13 terms, with Musgrave's ends.
 pub fn henderson(x: &[i64], out: &mut [i64])
     requires { ⌜ Filterable (now x) × (12 ≤ length (now x)) × (length (now out) ≡ length (now x)) ⌝ }
     ensures { λ _. ⌜ now (out .exit) ≡ filter tableHenderson (now (x .entry)) ⌝ }

@@ -1,4 +1,4 @@
--- The root is the greatest whole number whose square is not above its operand, and the only one.
+-- `root` is the root of METHOD 5.5, and no other number is.
 use Prim.Native.Nat.{ℕ, zero, suc, _+_, _*_, _-_, _/_, _^_, _≤_, _<_}
 use mathlib.Core.Path.{_≡_, refl}
 use mathlib.Core.Bool.{Bool, true, false, cond}

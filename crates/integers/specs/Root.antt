@@ -1,9 +1,9 @@
--- Document 01, "Spread and weights": the root is the greatest whole number whose square is not above its operand.
+-- METHOD 5.5: the root in a spread, cut to a whole number.
 use Prim.Native.Nat.{ℕ, zero, suc, _+_, _*_, _/_, _≤_}
 use mathlib.Core.Bool.{cond}
 use lib.Dec.{leb, eqb}
 
--- the words of the document; RootLaws shows that `root` is this number
+-- METHOD 5.5: r is the largest whole number whose square does not exceed x. RootLaws shows that `root` is this number
 pub record IsRoot (x r : ℕ) : Type 0 where
   pub not-above : r * r ≤ x
   pub greatest : (s : ℕ) → s * s ≤ x → s ≤ r

@@ -14,7 +14,7 @@ fn farther(x: i64, d: i64) -> i64
     if x < 0 { 2 * x - d } else { 2 * x + d }
 }
 
-// n / d to the nearest whole number, a half up: for the quotient of a weight.
+// n / d to the nearest whole number, a half up: for the quotient of a weight (METHOD 1.4).
 pub fn half_up(n: u64, d: u64) -> u64
     requires { ⌜ (0 < d) × (n ≤ largestNumerator) × (d ≤ largestDivisor) ⌝ }
     ensures { λ r. ⌜ r ≡ halfUp n d ⌝ }
@@ -22,7 +22,7 @@ pub fn half_up(n: u64, d: u64) -> u64
     (2 * n + d) / (2 * d)
 }
 
-// x / d to the nearest whole number, a half away from zero: for millionths and whole units.
+// x / d to the nearest whole number, a half away from zero: for millionths and whole units (METHOD 1.4).
 pub fn away_from_zero(x: i64, d: i64) -> i64
     requires { ⌜ Rounds x d ⌝ }
     ensures { λ r. ⌜ r ≡ awayFromZero x (natAbs d) ⌝ }
@@ -30,7 +30,7 @@ pub fn away_from_zero(x: i64, d: i64) -> i64
     farther(x, d) / (2 * d)
 }
 
-// x / d to the nearest grain.
+// x / d to the nearest grain (METHOD 1.3).
 pub fn to_grain(x: i64, d: i64) -> i64
     requires { ⌜ Rounds x d ⌝ }
     ensures { λ r. ⌜ r ≡ toGrain x (natAbs d) ⌝ }
@@ -52,8 +52,8 @@ fn above(x: u64) -> u64
     1u64 << ((65 - u64::leading_zeros(x)) / 2)
 }
 
-// The greatest whole number whose square is not above x. The candidate is above it, and the mean of it and its quotient, never below the root,
-// narrows it until its square is not above x.
+// The root of x (METHOD 5.5). The candidate is above it, and the mean of the candidate and its quotient, never below the root, narrows it until
+// its square is not above x.
 pub fn root(x: u64) -> u64
     ensures { λ r. ⌜ r ≡ root x ⌝ }
 {

@@ -1,4 +1,4 @@
--- Numbers in bytes, low byte first.
+-- METHOD 7.1: numbers in bytes, low byte first.
 use Prim.Native.Nat.{ℕ, zero, suc, _+_, _-_, _*_, _/_, _%_, _^_, _<_}
 use mathlib.Core.Path.{_≡_}
 use mathlib.Core.Bool.{cond}
@@ -31,7 +31,7 @@ abbrev pub FourBytes : ℤ → Type 0
 FourBytes (pos n) = n < 2 ^ 31
 FourBytes (negsuc k) = k < 2 ^ 31
 
--- it is stored as this number: below zero, 2 ^ 32 is added
+-- METHOD 7.1, two's complement: it is stored as this number: below zero, 2 ^ 32 is added
 unfoldable pub word : ℤ → ℕ
 word (pos n) = n
 word (negsuc k) = 2 ^ 32 - suc k

@@ -1,4 +1,4 @@
-// Document 01, "One pass": steps 1 to 7 on one series, in lent slices.
+// METHOD 3: steps 1 to 7 on one series, in lent slices.
 ghost use mathlib.Core.Path.{_≡_};
 ghost use Prim.Native.Nat.{_+_, _-_, _≤_, _<_};
 ghost use lib.ListN.{length};
@@ -54,7 +54,7 @@ fn copy_from(s: &[i64], i: usize, lo: usize, hi: usize, out: &mut [i64])
     }
 }
 
-// All months from the middle ones: the first six copy those twelve months later, the last six those twelve months earlier.
+// All months from the middle ones: the first six copy those of a year later, the last six those of a year earlier.
 fn widen(s: &[i64], out: &mut [i64])
     requires { ⌜ (12 ≤ length (now s)) × (length (now out) ≤ mostMonths) × (length (now s) + 12 ≡ length (now out)) ⌝ }
     ensures { λ _. ⌜ now (out .exit) ≡ widened 6 (now (s .entry)) ⌝ }

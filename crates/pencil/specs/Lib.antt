@@ -1,2 +1,2 @@
--- Document 01, "Pencil cases".
+-- METHOD 11: the pencil cases.
 pub mod Pencil

@@ -1,4 +1,4 @@
--- Document 01, "Pencil cases": those marked P, in its order. Each line has what the rules give, and what is written there.
+-- METHOD 11: the pencil cases, in its order. Each line has what the rules give, and what is written there.
 use mathlib.Core.Path.{_≡_}
 use mathlib.Core.Bool.{cond}
 use mathlib.Core.List.{List, [], _∷_, map}
@@ -51,25 +51,25 @@ exampleGroup = 0 ∷ 0 ∷ 0 ∷ 1 ∷ []
 
 unfoldable pub pencil : List Case
 pencil =
-    -- 2×12, 24,000 grains at one place, else 0: 2,000 there, 1,000 at six away
+    -- 2×12, 24,000 at one month: there, and six months away on both sides
     (at2x12 (one 30 24_000) (30 ∷ 24 ∷ 36 ∷ []) gives whole (2000 ∷ 1000 ∷ 1000 ∷ []))
-    -- Henderson, 16,796 at one place with at least twelve months on each side, else 0: 4,032 there, 3,600 next, -325 at six away
+    -- Henderson, 16,796 at one month, twelve or more on each side, exactly twelve too: there, next to it, and six months away
     ∷ (hendersonAround 30 gives hendersonWeights)
     ∷ (hendersonAround 12 gives hendersonWeights)
     ∷ (hendersonAround 59 gives hendersonWeights)
-    -- 3×3, run ending in 27,000, else 0: last three results 3,000, 7,000, 11,000. the run of places 11, 23, .. ends with 35, 47, 59, 71
+    -- 3×3, the last value of a run 27,000: the last three results. The run of places 11, 23, .. ends with 35, 47, 59, 71
     ∷ (at (filter table3x3 (one 71 27_000)) (47 ∷ 59 ∷ 71 ∷ []) gives whole (3000 ∷ 7000 ∷ 11_000 ∷ []))
-    -- 3×5, run ending in 60,000, else 0: last four 4,000, 9,000, 15,000, 17,000
+    -- 3×5, the last value of a run 60,000: the last four results
     ∷ (at (filter table3x5 (one 71 60_000)) (35 ∷ 47 ∷ 59 ∷ 71 ∷ []) gives whole (4000 ∷ 9000 ∷ 15_000 ∷ 17_000 ∷ []))
-    -- rounding: 1/2 to 1, -1/2 to -1
+    -- rounding to a grain: 1/2 to 1, -1/2 to -1
     ∷ (toGrain (pos 1) 2 ∷ toGrain (negsuc 0) 2 ∷ [] gives (pos 1 ∷ negsuc 0 ∷ []))
-    -- σ 100: a 149 and 150 give 1,000; 200 gives 500; 250 and 251 give 0
+    -- the weights by σ 100 of a 149, 150, 200, 250, 251
     ∷ (whole (map (weight 100) (149 ∷ 150 ∷ 200 ∷ 250 ∷ 251 ∷ [])) gives whole (1000 ∷ 1000 ∷ 500 ∷ 0 ∷ 0 ∷ []))
-    -- σ 3, a 5: weight 833
+    -- the weight by σ 3 of a 5
     ∷ (whole (weight 3 5 ∷ []) gives whole (833 ∷ []))
-    -- irregular 500 grains, weight 833: correction 84
+    -- the correction of an irregular of 500 grains, its weight 833
     ∷ (correctionOf (pos 500) 833 ∷ [] gives whole (84 ∷ []))
-    -- group 0, 0, 0, 1: both spreads 0, weights 1,000, 1,000, 1,000, 0
+    -- the group of sizes 0, 0, 0, 1: both spreads, and the weights of its months
     ∷ (whole (spread exampleGroup ∷ secondSpread exampleGroup ∷ []) gives whole (0 ∷ 0 ∷ []))
     ∷ (whole (map (weight (secondSpread exampleGroup)) exampleGroup) gives whole (1000 ∷ 1000 ∷ 1000 ∷ 0 ∷ []))
     ∷ []

@@ -1,1 +1,1 @@
-// The pencil cases of document 01: no code, one list in specs/ and one proof in proofs/.
+// METHOD 11, the pencil cases: no code, one list in specs/ and one proof in proofs/.

@@ -1,4 +1,4 @@
--- Lines of document 01, and one with negative numbers, worked by the definitions.
+-- Lines like those of METHOD 9, and one with negative numbers, worked by the definitions.
 use mathlib.Core.Path.{_≡_, refl}
 use mathlib.Core.List.{[], _∷_}
 use lib.IntN.{pos, negsuc}

@@ -1,2 +1,2 @@
--- The crate's root.
+-- METHOD 9: the lines that are printed.
 pub mod Text

@@ -1,4 +1,4 @@
--- Document 01, "The printing program": the lines that are printed, in ASCII.
+-- METHOD 9: the lines that are printed, in ASCII.
 use Prim.Native.Nat.{ℕ, zero, suc, _+_, _*_}
 use mathlib.Core.Path.{_≡_}
 use mathlib.Core.List.{List, [], _∷_, _++_}
@@ -29,21 +29,21 @@ refusedWord = 114 ∷ 101 ∷ 102 ∷ 117 ∷ 115 ∷ 101 ∷ 100 ∷ []
 abbrev pub spaced : List ℕ → List ℕ
 spaced word = space ∷ word
 
--- words on one line, "one space between", and a line feed after the last
+-- METHOD 9.2: the words of a line, single spaces between them and a line feed at its end
 abbrev pub line : List (List ℕ) → List ℕ
 line [] = lineFeed ∷ []
 line (w ∷ []) = w ++ lineFeed ∷ []
 line (w ∷ v ∷ ws) = w ++ space ∷ line (v ∷ ws)
 
--- "prints `refused`, number and place on one line, and nothing else"
+-- METHOD 9.1, the line of a refusal: `refused`, its number, its place
 unfoldable pub refusedLine : ℕ → ℕ → List ℕ
 refusedLine number place = line (refusedWord ∷ digits number ∷ digits place ∷ [])
 
--- "Line one is `months`, n, `start`, the month."
+-- METHOD 9.2, the first line: `months`, n, `start`, the start month
 unfoldable pub firstLine : ℕ → ℕ → List ℕ
 firstLine n start = line (monthsWord ∷ digits n ∷ startWord ∷ digits start ∷ [])
 
--- "Then one line a month: t, figure, D10, D11, D12, D13, C17"
+-- METHOD 9.2, the line of a month: t, the figure, D10, D11, D12, D13 and C17
 unfoldable pub monthLine : Month → List ℕ
 monthLine m =
     line (digits (m .t) ∷ signedDigits (m .figure)
@@ -88,7 +88,7 @@ pub record SeriesTables : Type 0 where
 abbrev pub monthAt : SeriesTables → ℕ → Month
 monthAt s t = record { t = t; figure = s .figures ‼ t; d10 = s .d10 ‼ t; d11 = s .d11 ‼ t; d12 = s .d12 ‼ t; d13 = s .d13 ‼ t; c17 = getD (s .c17) t 0 }
 
--- the lines of all months, and the whole text
+-- METHOD 9.2: the lines of all months, and the whole text
 unfoldable pub monthLines : SeriesTables → List ℕ
 monthLines s = lines (λ t. monthLine (monthAt s t)) (length (s .figures))
 

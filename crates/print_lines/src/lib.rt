@@ -1,4 +1,4 @@
-// The lines that the printing program prints, put together in a byte array. A function that puts something answers the place after it.
+// METHOD 9: the lines that are printed, put together in a byte array. A function that puts something answers the place after it.
 ghost use mathlib.Core.Path.{_≡_};
 ghost use Prim.Native.Nat.{_+_, _*_, _≤_, _<_};
 ghost use lib.ListN.{length};

@@ -1,4 +1,4 @@
--- Document 01, "Units and rounding": what lies inside its limits.
+-- METHOD 1.1 and 1.5: what lies inside its limits.
 use Prim.Native.Nat.{ℕ}
 use mathlib.Core.Bool.{Bool, _&&_}
 use lib.Dec.{leb}

@@ -1,25 +1,25 @@
--- Document 01, "Units and rounding": the unit and the limits, each under one name.
+-- METHOD 1.1, 1.2 and 1.5: the unit and the limits, each under one name.
 use Prim.Native.Nat.{ℕ}
 
--- a grain is one thousandth of a unit
+-- METHOD 1.2: the grains of a unit
 abbrev pub unit : ℕ
 unit = 1000
 
--- n: 72 to 600
+-- METHOD 1.1: n, the months of a series, is 72 to 600
 abbrev pub leastMonths : ℕ
 leastMonths = 72
 
 abbrev pub mostMonths : ℕ
 mostMonths = 600
 
--- start month: 1 to 12; the months of a year, and the period of a desk file
+-- METHOD 1.1: the start month is 1 to 12; also the months of a year, and the period of a desk file (7.1)
 abbrev pub monthsOfYear : ℕ
 monthsOfYear = 12
 
--- figure: -200,000 to 200,000
+-- METHOD 1.1: a figure, in whole units, is -200,000 to 200,000
 abbrev pub largestFigure : ℕ
 largestFigure = 200_000
 
--- weights of extremes are thousandths, 0 to 1,000
+-- METHOD 1.5: the weight of a month that counts in full, in thousandths
 abbrev pub fullWeight : ℕ
 fullWeight = 1000

@@ -1,4 +1,4 @@
--- Document 01, "Refusal sheet": the number and the place of each row. The promises of the entry points say `refusal number place`;
+-- METHOD 8.1, the refusal sheet: the number and the place of each row. The promises of the entry points say `refusal number place`;
 -- what the program answers is turned into that by `refusalOf`.
 use Prim.Native.Nat.{ℕ}
 use Rattle.refusals.specs.declared.Refusal.{Refusal}
@@ -11,25 +11,25 @@ pub record Row : Type 0 where
 abbrev pub numbered : ℕ → ℕ → Row
 numbered k t = record { number = k; place = t }
 
--- a row without a place has place 0
+-- METHOD 8.1: each refusal's number and place; a row without a place says 0
 abbrev pub row : Refusal → Row
--- n below 72; n above 600; start month outside 1 to 12; a lent slice has the wrong length
+-- n is below 72; n is above 600; the start month is not 1 to 12; a lent slice does not have the length that it must have
 row TooShort = numbered 1 0
 row TooLong = numbered 2 0
 row BadStart = numbered 3 0
 row WrongLength = numbered 4 0
--- a figure outside its limits; place of the first
+-- a figure is outside its limits, the first of them at t
 row (FigureOutside t) = numbered 5 t
--- dropping leaves a group empty
+-- dropping would empty a group (never: METHOD 5.8)
 row EmptyGroup = numbered 6 0
--- fewer than 4 bytes; period not 12; file length not 4+6n
+-- a file has fewer than 4 bytes; its period is not 12; it is not 4 + 6n bytes long
 row NoHeader = numbered 7 0
 row BadPeriod = numbered 8 0
 row BadFileLength = numbered 9 0
--- a weight above 1,000; place of the first
+-- a weight is above 1,000, the first of them at t
 row (WeightAbove t) = numbered 10 t
 
--- an answer as the document has it: a success with its values, or a refusal's number and place
+-- an answer as METHOD 8 has it: a success with its values, or a refusal's number and place
 pub data Answer (A : Type 0) : Type 0 where
   success : A → Answer A
   refusal : (number place : ℕ) → Answer A

@@ -1,4 +1,4 @@
-// The refusal sheet of document 01, and the limits that it speaks of.
+// METHOD 8.1, the refusal sheet, and the limits that it speaks of (METHOD 1).
 ghost use mathlib.Core.Bool.{not};
 ghost use mathlib.Core.Path.{_≡_};
 ghost use Rattle.refusals.specs.First.{firstAbove, firstOutside};
@@ -73,7 +73,7 @@ pub fn place(r: Refusal) -> usize
     }
 }
 
-// Row 3: a start month outside 1 to 12.
+// Row 3: a start month that is not 1 to 12.
 fn start_outside(start: u8) -> bool
     ensures { λ r. ⌜ r ≡ not (startInside start) ⌝ }
 {
@@ -105,7 +105,7 @@ pub fn span(n: usize, start: u8) -> Verdict
     Verdict::Fine
 }
 
-// Row 5: a figure outside its limits.
+// Row 5: a figure below -200,000 or above 200,000.
 pub fn figure_outside(figure: i32) -> bool
     ensures { λ r. ⌜ r ≡ not (figureInside figure) ⌝ }
 {

@@ -1,17 +1,19 @@
--- Document 01, "Filters": the four filters, each a table of rows.
+-- METHOD 2.2 to 2.6: the four filters, each a table of rows.
 use Rattle.rows.specs.Table.{Table}
 use Rattle.rows.specs.MeanRows.{row2x12, rows3x3, rows3x5}
 use Rattle.rows.specs.HendersonRows.{rowsHenderson}
 
--- 2×12 has a value only where six places stand on each side, so that its one row serves them all
+-- METHOD 2.2: 2×12 has a value only where six places stand on each side, so that its one row serves them all
 unfoldable pub table2x12 : Table
 table2x12 = record { side = 6; step = 1; width = 0; rows = row2x12; middle = 24; ends = 24 }
 
+-- METHOD 2.3 and 2.4: 3×3 and 3×5, along a month's run
 unfoldable pub table3x3 : Table
 table3x3 = record { side = 2; step = 12; width = 5; rows = rows3x3; middle = 27; ends = 27 }
 
 unfoldable pub table3x5 : Table
 table3x5 = record { side = 3; step = 12; width = 7; rows = rows3x5; middle = 60; ends = 60 }
 
+-- METHOD 2.5 and 2.6: Henderson's 13 terms, with Musgrave's ends
 unfoldable pub tableHenderson : Table
 tableHenderson = record { side = 6; step = 1; width = 13; rows = rowsHenderson; middle = 16_796; ends = 1_000_000 }

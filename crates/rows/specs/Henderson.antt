@@ -1,4 +1,4 @@
--- Where Henderson's rows come from, in whole numbers: the closed formula of 003 for the middle row, Musgrave's of 003 for the ends.
+-- Where Henderson's rows come from, in whole numbers: the closed formula of METHOD 2.5 for the middle row, Musgrave's of METHOD 2.6 for the ends.
 use mathlib.Core.Path.{_≡_}
 use mathlib.Core.Bool.{cond}
 use mathlib.Core.List.{List}
@@ -12,8 +12,8 @@ use Rattle.integers.specs.Sums.{sumZ}
 use Rattle.series.specs.Operations.{times}
 use Rattle.rows.specs.HendersonRows.{rowsHenderson}
 
--- ---- the closed formula. n is two more than the terms on one side; n² - 1 stands for the printed (n - 1)² of the denominator.
--- The weight i places from the centre is closedNumerator n i over closedDenominator n
+-- ---- METHOD 2.5, the closed formula. n is METHOD's m, two more than the terms of one side. The weight i places from the middle one is
+-- closedNumerator n i over closedDenominator n. (One source prints (n - 1)² for the factor n² - 1 of the denominator)
 unfoldable pub closedDenominator : ℕ → ℕ
 closedDenominator n = 8 * n * (n * n - 1) * (4 * n * n - 1) * (4 * n * n - 9) * (4 * n * n - 25)
 
@@ -25,13 +25,13 @@ closedNumerator n i =
 unfoldable pub closedRow : ℕ → List ℤ
 closedRow p = tab (2 * p + 1) (λ j. closedNumerator (p + 2) ((p - j) + (j - p)))
 
--- ---- Musgrave's weights for M values, from 2p + 1 symmetric weights w over W, with D = P / R.
+-- ---- METHOD 2.6, Musgrave's weights for M values, from 2p + 1 symmetric weights w over W, with D = P / R.
 -- Places count from 0, so that the formula's j is j + 1 here and its j - (M + 1) / 2 is half of `offset j`
 module _ (p W P R : ℕ) (w : List ℤ) (M : ℕ) where
   abbrev offset : ℕ → ℤ
   offset j = pos (2 * j + 1) -ℤ pos M
 
-  -- over the weights that find no value: their sum, over W, and the sum of offset times weight, over 2 W
+  -- over the weights that find no value: their sum, over W, is the formula's a; the sum of offset times weight, over 2 W, is its c
   abbrev missing : ℤ
   missing = sumZ (2 * p + 1 - M) (λ i. w ‼ (M + i))
 
@@ -46,15 +46,15 @@ module _ (p W P R : ℕ) (w : List ℤ) (M : ℕ) where
   abbrev musgraveNumerator : ℕ → ℤ
   musgraveNumerator j = pos (M * divisor) *ℤ (w ‼ j) +ℤ pos divisor *ℤ missing +ℤ pos (3 * M * P) *ℤ (offset j *ℤ tilt)
 
-  -- rounded to the nearest millionth, a half away from zero
+  -- rounded to millionths (METHOD 1.4)
   abbrev millionths : ℕ → ℤ
   millionths j = awayFromZero (pos 1_000_000 *ℤ musgraveNumerator j) (W * M * divisor)
 
-  -- the present month, p places from the oldest, is 1,000,000 less the others
+  -- the weight that is stored; that of the present month, p places from the oldest, is a million less all the others
   unfoldable pub endWeight : ℕ → ℤ
   endWeight j = cond (eqb j p) (pos 1_000_000 -ℤ sumZ M (λ i. cond (eqb i p) (pos 0) (millionths i))) (millionths j)
 
--- ---- the whole table. Weight k of row r: rows after the middle one have fewer values after them; rows before it are those, mirrored
+-- ---- the whole table. Weight k of row r: rows after the middle one have fewer values after them; rows before it are those, read backwards
 unfoldable pub weightByRule : ℕ → ℕ → ℕ → ℕ → List ℤ → ℕ → ℕ → ℤ
 weightByRule p W P R w r k =
     cond (ltb r p) (cond (ltb (p + r) k) (pos 0) (endWeight p W P R w (p + 1 + r) (p + r - k)))
@@ -67,7 +67,7 @@ rowsByRule p W P R w = tab ((2 * p + 1) * (2 * p + 1)) (λ i. weightByRule p W P
 abbrev pub middleRow : List ℤ
 middleRow = take 13 (drop (6 * 13) rowsHenderson)
 
--- D is 1039/10000
+-- METHOD 2.6: D is 1039/10000
 abbrev pub dNumerator : ℕ
 dNumerator = 1039
 
@@ -75,7 +75,7 @@ abbrev pub dDenominator : ℕ
 dDenominator = 10_000
 
 pub record HendersonRule : Type 0 where
-  -- the symmetric weights follow from the closed formula, with six terms on one side: n is 8
+  -- METHOD 2.7: the stored middle row follows from the closed formula, with six terms on one side: n is 8
   pub closed-formula : times (closedDenominator 8) middleRow ≡ times 16_796 (closedRow 6)
-  -- each stored row obeys Musgrave's rule, the table as a whole
+  -- METHOD 2.7: the stored rows for the ends follow from Musgrave's rule, shown for the whole table at once
   pub musgrave : rowsHenderson ≡ rowsByRule 6 16_796 dNumerator dDenominator middleRow

@@ -1,4 +1,4 @@
--- Document 01, "Filters": the stored rows of Henderson's filter and its ends, laid out as those of MeanRows.
+-- METHOD 2.5 and 2.6: the stored rows of Henderson's filter and its ends, laid out as those of MeanRows.
 use mathlib.Core.List.{List, [], _∷_}
 use lib.IntN.{ℤ, pos, negsuc}
 

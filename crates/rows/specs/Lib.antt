@@ -1,4 +1,4 @@
--- Document 01, "Filters": the stored rows, what they obey, and where Henderson's come from.
+-- METHOD 2: the stored rows of the filters, what they obey, and where Henderson's come from.
 pub mod Table
 pub mod MeanRows
 pub mod HendersonRows

@@ -1,4 +1,4 @@
--- Document 01, "Filters": what the stored rows obey, whole tables at a time (shown in proofs/Rules.antt).
+-- METHOD 2.7: what the stored rows obey, whole tables at a time (shown in proofs/Rules.antt).
 use mathlib.Core.Path.{_≡_}
 use mathlib.Core.Bool.{cond}
 use mathlib.Core.List.{List, [], _∷_}
@@ -32,8 +32,8 @@ mirrored F = tab (length (F .rows)) (λ i.
     cond (ltb k (taken F r)) (rowWeight F (2 * F .side - r) (taken F r - 1 - k)) (pos 0))
 
 pub record RowRules : Type 0 where
-  -- each row sums to its denominator; 2×12 has its middle row alone, which is row 6 of 13
+  -- METHOD 2.1: each row sums to its denominator; 2×12 has its middle row alone, which is row 6 of 13
   pub row-sums : (sums table3x3 ∷ sums table3x5 ∷ sums tableHenderson ∷ tab 1 (λ r. sumZ 13 (rowWeight table2x12 6)) ∷ [])
       ≡ (denominators table3x3 ∷ denominators table3x5 ∷ denominators tableHenderson ∷ tab 1 (λ r. pos 24) ∷ [])
-  -- the rows before the middle one are those after it, mirrored
+  -- METHOD 2.1: the rows before the middle one are those after it, read backwards
   pub mirrors : (mirrored table3x3 ∷ mirrored table3x5 ∷ mirrored tableHenderson ∷ []) ≡ (rows3x3 ∷ rows3x5 ∷ rowsHenderson ∷ [])

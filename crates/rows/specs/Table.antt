@@ -1,4 +1,4 @@
--- The rows of a filter, as a table.
+-- METHOD 2.1: the rows of a filter, as a table.
 use mathlib.Core.Bool.{cond}
 use mathlib.Core.List.{List}
 use Prim.Native.Nat.{ℕ, _+_, _*_}
@@ -6,8 +6,8 @@ use lib.Dec.{eqb}
 use lib.IntN.{ℤ}
 use Rattle.integers.specs.Lists.{_‼_}
 
--- A table has 2 side + 1 rows of weights for values `step` months apart: 1 along the series, 12 along a month's run, which is that month's
--- values, oldest first. Its rows stand one after the other, each `width` places long, and a row's first weight is for its oldest value. Row
+-- A table has 2 side + 1 rows of weights for values `step` months apart: 1 along the series, 12 along a month's run, the values of one calendar
+-- month, oldest first. Its rows stand one after the other, each `width` places long, and a row's first weight is for its oldest value. Row
 -- `side` serves a place with `side` values on each side, row b (less than `side`) one with b values before it, row 2 side - a one with a
 -- values after it. `middle` is the denominator of row `side`, `ends` that of the others. (Width 0 is one row for all places: such a table
 -- serves no place near an end.)

@@ -1,4 +1,4 @@
-// The stored rows of Henderson's 13 terms over 16,796, between Musgrave's six rows for the start and six for the end, in millionths.
+// METHOD 2.5 and 2.6: Henderson's 13 terms over 16,796, between Musgrave's six rows for the start and six for the end, in millionths.
 use super::Shape;
 
 pub const ROWS_HENDERSON: [i64; 169] = [

@@ -1,4 +1,4 @@
-// Document 01, "Filters": the constant rows of every filter and end position, read by row and column.
+// METHOD 2: the stored rows of the filters, in constant tables; a row and a column find a weight.
 pub mod henderson_rows;
 pub mod mean_rows;
 

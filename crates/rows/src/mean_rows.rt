@@ -1,5 +1,5 @@
-// The stored rows of 2x12, 3x3 and 3x5, oldest value first: the rows for the start of a run, the middle row, the rows for its end. The shorter rows
-// are filled up with zeros.
+// METHOD 2.2 to 2.4: the stored rows of 2x12, 3x3 and 3x5, oldest value first: the rows for the start of a run, the middle row, the rows for its
+// end. The shorter rows are filled up with zeros.
 use super::Shape;
 
 // 2x12, in 24ths.

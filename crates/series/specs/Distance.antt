@@ -1,4 +1,4 @@
--- How far a rounded series is from an exact one, whose numbers are whole numbers over a denominator k.
+-- METHOD 6.3 and 6.4: how far a rounded series is from an exact one, whose numbers are whole numbers over a denominator k.
 use mathlib.Core.Path.{_≡_}
 use mathlib.Core.List.{List}
 use Prim.Native.Nat.{ℕ, _*_, _≤_}

@@ -1,4 +1,4 @@
--- What a pass chooses. Document 01 settles every choice (`plainMonthly`, below); the steps and their exact working are stated for any, and take
+-- What a pass chooses. METHOD 3 settles every choice (`plainMonthly`, below); the steps and their exact working are stated for any, and take
 -- the same value, so that the exact working holds what the rounded steps chose.
 use mathlib.Core.List.{List}
 use Prim.Native.Nat.{ℕ}
@@ -11,6 +11,7 @@ pub record MovingAverage : Type 0 where
   pub table : Table
   pub over : ℕ
 
+-- 2×12, 3×3 and 3×5 (METHOD 2.2 to 2.4)
 abbrev pub average2x12 : MovingAverage
 average2x12 = record { table = table2x12; over = 24 }
 
@@ -20,13 +21,13 @@ average3x3 = record { table = table3x3; over = 27 }
 abbrev pub average3x5 : MovingAverage
 average3x5 = record { table = table3x5; over = 60 }
 
--- 4,199,000,000 is the least common multiple of 16,796 and 1,000,000
+-- Henderson's 13 terms and its ends (METHOD 2.5, 2.6). 4,199,000,000 is the least common multiple of 16,796 and 1,000,000
 abbrev pub henderson13 : MovingAverage
 henderson13 = record { table = tableHenderson; over = 4_199_000_000 }
 
 -- what is done to the values of SI1 or SI2 before they are filtered
 pub data Replacing : Type 0 where
-  -- they are not replaced
+  -- METHOD 3.8: they are not replaced
   none : Replacing
 
 abbrev pub replaced : Replacing → List ℤ → List ℤ
@@ -42,15 +43,15 @@ overReplaced none = 1
 pub record Choices : Type 0 where
   -- half a year, in months
   pub halfYear : ℕ
-  -- steps 1, 4 and 7: the average over a year, which takes half a year on each side
+  -- METHOD 3.1, 3.4 and 3.7: the average over a year, which takes half a year on each side
   pub yearly : MovingAverage
-  -- step 3
+  -- METHOD 3.3: the seasonal filter of SI1
   pub seasonal1 : MovingAverage
-  -- step 5
+  -- METHOD 3.5: the trend filter
   pub trend : MovingAverage
-  -- step 6
+  -- METHOD 3.6: the seasonal filter of SI2
   pub seasonal2 : MovingAverage
-  -- SI1 before step 3, SI2 before its filter in step 6
+  -- what is done to SI1 before step 3, and to SI2 before its filter in step 6
   pub replacing1 : Replacing
   pub replacing2 : Replacing
 
@@ -67,6 +68,6 @@ monthly seasonal2 replacing1 replacing2 =
       replacing2 = replacing2;
     }
 
--- 3×5 in step 6, and no value of SI1 and SI2 is replaced
+-- METHOD 3: 3×5 in step 6, and no value of SI1 and SI2 is replaced
 abbrev pub plainMonthly : Choices
 plainMonthly = monthly average3x5 none none

@@ -1,5 +1,5 @@
--- Document 01, "Three passes": the exact working of a pass, by the choices c. Steps 1 to 7 as whole numbers over a denominator that stands beside
--- each; each filter is the weighted sum by its row, and nothing is rounded. Repeats, copies and differences are those of the steps.
+-- METHOD 6.1: a pass without rounding, by the choices c: steps 1 to 7 as whole numbers over a denominator that stands beside each. A filter is
+-- left as the weighted sum of its row; what is repeated, copied and subtracted is as in the steps.
 use mathlib.Core.List.{List}
 use Prim.Native.Nat.{ℕ, _*_}
 use lib.ListN.{length}
@@ -26,24 +26,24 @@ module _ (c : Choices) where
   abbrev pub overS2 : ℕ
   overS2 = overR2 * c .yearly .over
 
--- 2×12, repeated at both ends, over 24 times the denominator of r
+-- METHOD 3.4 and 3.7: 2×12 with its first and last value repeated at the ends, over 24 times the denominator of r
 unfoldable pub exactLevel : Choices → List ℤ → List ℤ
 exactLevel c r = pick (length r) (nearestLevel (c .halfYear) (length r)) (exactInside (c .yearly .table) (c .yearly .over) r)
 
 -- X may itself stand over a denominator: every one below is then so many times as large
 module _ (c : Choices) (x : List ℤ) where
-  -- over 24
+  -- T1 and SI1 (METHOD 3.1, 3.2), over 24
   unfoldable pub exactT1 : List ℤ
   exactT1 = exactInside (c .yearly .table) (c .yearly .over) x
 
   unfoldable pub exactSI1 : List ℤ
   exactSI1 = minus (times (c .yearly .over) (inner (c .halfYear) x)) exactT1
 
-  -- over overR1, 24 * 27
+  -- R1 (METHOD 3.3), over overR1, 24 * 27
   unfoldable pub exactR1 : List ℤ
   exactR1 = exact (c .seasonal1 .table) (c .seasonal1 .over) (exactReplaced (c .replacing1) exactSI1)
 
-  -- over overA1, 24 * 27 * 24
+  -- M1, S1 and A1 (METHOD 3.4, 3.5), over overA1, 24 * 27 * 24
   unfoldable pub exactM1 : List ℤ
   exactM1 = exactLevel c exactR1
 
@@ -53,18 +53,18 @@ module _ (c : Choices) (x : List ℤ) where
   unfoldable pub exactA1 : List ℤ
   exactA1 = minus (times (overA1 c) x) exactS1
 
-  -- over overT2
+  -- T2 and SI2 (METHOD 3.5, 3.6), over overT2
   unfoldable pub exactT2 : List ℤ
   exactT2 = exact (c .trend .table) (c .trend .over) exactA1
 
   unfoldable pub exactSI2 : List ℤ
   exactSI2 = minus (times (overT2 c) x) exactT2
 
-  -- over overR2
+  -- R2 (METHOD 3.6), over overR2
   unfoldable pub exactR2 : List ℤ
   exactR2 = exact (c .seasonal2 .table) (c .seasonal2 .over) (exactReplaced (c .replacing2) exactSI2)
 
-  -- over overS2
+  -- M2 and S2 (METHOD 3.7), over overS2
   unfoldable pub exactM2 : List ℤ
   exactM2 = exactLevel c exactR2
 

@@ -1,4 +1,4 @@
--- Document 01, "One pass": what a pass may choose, the steps, their exact working, and how near the two are.
+-- METHOD 3, 6.1 and 6.3: what a pass may choose, the steps, their exact working, and how near the two are.
 pub mod Choices
 pub mod Places
 pub mod Steps

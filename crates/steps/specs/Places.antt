@@ -1,4 +1,4 @@
--- Document 01, "One pass": which months a step takes from which, h being half a year: 6 months. (A difference below 0 is 0.)
+-- METHOD 3: which months a step takes from which, h being half a year: 6 months. (A difference below 0 is 0.)
 use mathlib.Core.Bool.{cond}
 use mathlib.Core.List.{List}
 use Prim.Native.Nat.{ℕ, _+_, _*_, _-_, min}
@@ -8,19 +8,20 @@ use lib.IntN.{ℤ}
 use Rattle.series.specs.Operations.{pick}
 
 module _ (h : ℕ) where
-  -- the months from t 6 to n - 7 of a series
+  -- METHOD 3.2: the months from t 6 to n - 7 of a series
   unfoldable pub inner : List ℤ → List ℤ
   inner x = pick (length x - 2 * h) (λ i. i + h) x
 
-  -- 2×12 of a list of m numbers has m - 12 values, the first for place 6 and the last for place m - 7: which of them is nearest to place i
+  -- METHOD 3.4 and 3.7: 2×12 of a list of m numbers has m - 12 values, the first for place 6 and the last for place m - 7: which of them place i
+  -- takes, the nearest
   unfoldable pub nearestLevel : ℕ → ℕ → ℕ
   nearestLevel m i = min (i - h) (m - (2 * h + 1))
 
-  -- which of the numbers for t 6 to n - 7 month t of n takes: the first six months that of twelve months later, the last six that of twelve
-  -- months earlier
+  -- METHOD 3.4: which of the numbers for t 6 to n - 7 month t of n takes: the first six months copy that of a year later, the last six that of a
+  -- year earlier
   unfoldable pub copied : ℕ → ℕ → ℕ
   copied n t = cond (ltb t h) (t + 2 * h - h) (cond (ltb t (n - h)) (t - h) (t - 2 * h - h))
 
-  -- all n months from the n - 12 in the middle
+  -- METHOD 3.4: all n months from the n - 12 in the middle
   unfoldable pub widened : List ℤ → List ℤ
   widened s = pick (length s + 2 * h) (copied (length s + 2 * h)) s

@@ -1,6 +1,5 @@
--- Document 01, "One pass": steps 1 to 7 on a series X of n grains, by the choices c; the comments name those of document 01, where half a year is
--- 6 months. T1, SI1, R1 and M1 stand for t from 6 to n - 7: as lists their place 0 is t = 6, so that the first value of a month's run in SI1 is
--- its first in the list.
+-- METHOD 3: steps 1 to 7 on a series X of n grains, by the choices c; the comments name those of METHOD, where half a year is 6 months. T1, SI1,
+-- R1 and M1 stand for t from 6 to n - 7: as lists their place 0 is t = 6, so that the first value of a month's run in SI1 is its first in the list.
 use mathlib.Core.List.{List}
 use lib.ListN.{length}
 use lib.IntN.{ℤ}
@@ -9,46 +8,46 @@ use Rattle.filters.specs.Filter.{filter, inside}
 use Rattle.steps.specs.Choices.{Choices, replaced}
 use Rattle.steps.specs.Places.{inner, nearestLevel, widened}
 
--- 2×12 of a series, the nearest of its values being repeated at both ends
+-- METHOD 3.4 and 3.7: 2×12 of a series, its first and last value repeated at the six places of each end
 unfoldable pub level : Choices → List ℤ → List ℤ
 level c r = pick (length r) (nearestLevel (c .halfYear) (length r)) (inside (c .yearly .table) r)
 
 module _ (c : Choices) (x : List ℤ) where
-  -- 1. T1 is 2×12 of X, at t from 6 to n - 7
+  -- METHOD 3.1: T1, the first trend-cycle, is 2×12 of X
   unfoldable pub T1 : List ℤ
   T1 = inside (c .yearly .table) x
 
-  -- 2. SI1 is X less T1, there
+  -- METHOD 3.2: SI1, seasonal and irregular together, is X less T1, at the months of T1
   unfoldable pub SI1 : List ℤ
   SI1 = minus (inner (c .halfYear) x) T1
 
-  -- 3. R1 is 3×3 of each month's run of SI1
+  -- METHOD 3.3: R1, the first seasonal before it is centred, is 3×3 of SI1, month's run by month's run
   unfoldable pub R1 : List ℤ
   R1 = filter (c .seasonal1 .table) (replaced (c .replacing1) SI1)
 
-  -- 4. M1 is 2×12 of R1, at t from 12 to n - 13; t 6 to 11 take its value at 12, t n - 12 to n - 7 its value at n - 13. S1 is R1 less
-  -- M1; the first six months take S1 twelve months later, the last six S1 twelve months earlier
+  -- METHOD 3.4: M1 is 2×12 of R1, worked at t from 12 to n - 13; the first of these values is repeated at t 6 to 11, the last at t n - 12 to n - 7.
+  -- S1, the first seasonal, is R1 less M1; the first six months copy that of a year later, the last six that of a year earlier
   unfoldable pub M1 : List ℤ
   M1 = level c R1
 
   unfoldable pub S1 : List ℤ
   S1 = widened (c .halfYear) (minus R1 M1)
 
-  -- 5. A1 is X less S1; T2 is Henderson of A1, all n months
+  -- METHOD 3.5: A1, the first adjusted series, is X less S1; T2, the trend-cycle of the pass, is Henderson's filter of A1, ends included
   unfoldable pub A1 : List ℤ
   A1 = minus x S1
 
   unfoldable pub T2 : List ℤ
   T2 = filter (c .trend .table) A1
 
-  -- 6. SI2 is X less T2; R2 is 3×5 of each month's run of SI2
+  -- METHOD 3.6: SI2 is X less T2, and R2, the seasonal before it is centred, its 3×5, run by run, over all n months
   unfoldable pub SI2 : List ℤ
   SI2 = minus x T2
 
   unfoldable pub R2 : List ℤ
   R2 = filter (c .seasonal2 .table) (replaced (c .replacing2) SI2)
 
-  -- 7. M2 is 2×12 of R2, at t from 6 to n - 7, the nearest of these values being repeated at both ends. S2 is R2 less M2
+  -- METHOD 3.7: M2 is 2×12 of R2, its first and last value repeated at the six months of each end; S2, the seasonal of the pass, is R2 less M2
   unfoldable pub M2 : List ℤ
   M2 = level c R2
 

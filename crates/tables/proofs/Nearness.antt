@@ -1,4 +1,4 @@
--- Demand 3: the results are near their exact working, and the parts add up; and each pass is near its own.
+-- METHOD 6.4 and 10.3: the results are near their exact working, and the parts add up; METHOD 6.3: each pass is near its own.
 use mathlib.Core.Path.{_≡_, refl}
 use mathlib.Core.List.{List}
 use Prim.Native.Nat.{ℕ, _+_, _<_}

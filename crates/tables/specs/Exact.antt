@@ -1,4 +1,4 @@
--- Document 01, "Three passes": the exact working of the results, fed B1 and D1 and nothing else of ours, as whole numbers over one denominator.
+-- METHOD 6.2: the exact working of the results, from B1 and D1 alone, as whole numbers over one denominator.
 use mathlib.Core.List.{List}
 use Prim.Native.Nat.{ℕ, _*_}
 use lib.IntN.{ℤ}
@@ -12,18 +12,18 @@ abbrev pub overE : ℕ
 overE = overS2 choicesD * finalTrend .over
 
 module _ (b1 d1 : List ℤ) where
-  -- E10 is S2 of the exact working of D1
+  -- METHOD 6.2: E10, the exact seasonal, is the exact S2 of D1
   unfoldable pub E10 : List ℤ
   E10 = times (finalTrend .over) (exactS2 choicesD d1)
 
-  -- E11 is B1 less E10
+  -- METHOD 6.2: E11, the adjusted figure by it, is B1 less E10
   unfoldable pub E11 : List ℤ
   E11 = minus (times overE b1) E10
 
-  -- E12 is Henderson of D1 less E10
+  -- METHOD 6.2: E12, the exact trend-cycle, is the exact Henderson of D1 less E10
   unfoldable pub E12 : List ℤ
   E12 = exact (finalTrend .table) (finalTrend .over) (minus (times (overS2 choicesD) d1) (exactS2 choicesD d1))
 
-  -- E13 is E11 less E12
+  -- METHOD 6.2: E13, the exact irregular, is E11 less E12
   unfoldable pub E13 : List ℤ
   E13 = minus E11 E12

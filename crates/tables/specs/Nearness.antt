@@ -1,4 +1,4 @@
--- How near the tables are to their exact working: demand 3 (the third promise of README), and what document 01 says of each pass.
+-- How near the tables are to their exact working: the results by the project's third promise (METHOD 6.4, 10.3), and each pass (METHOD 6.3).
 use mathlib.Core.Path.{_≡_}
 use mathlib.Core.List.{List}
 use Prim.Native.Nat.{ℕ}
@@ -9,12 +9,13 @@ use Rattle.steps.specs.Choices.{plainMonthly}
 use Rattle.steps.specs.Near.{Near}
 use Rattle.tables.specs.Exact.{overE, E10, E11, E12, E13}
 
--- of a pass with the choices that B, C and D make: on its X as it stands, T2 within 4 grains and S2 within 10 of the exact fractions
+-- METHOD 6.3, of a pass with the choices that B, C and D make, on the X that it is given: T2 lies within 4 grains of the exact T2, and S2 within
+-- 10 of the exact S2
 abbrev pub PassNear : List ℤ → Type 0
 PassNear x = Near plainMonthly 4 10 x
 
--- at month t, of the tables as the caller gets them: seasonal and adjusted figure within 10 grains, the trend within 14, the irregular within 24,
--- and the parts add up
+-- METHOD 6.4 and 10.3, at month t, of the tables as the caller gets them: D10 from E10 and D11 from E11 at most 10 grains, D12 from E12 at most 14,
+-- D13 from E13 at most 24; and D10, D12 and D13 sum to B1
 pub record NearAt (b1 d1 d10 d11 d12 d13 : List ℤ) (t : ℕ) : Type 0 where
   pub seasonal : Apart 10 overE (d10 ‼ t) (E10 b1 d1 ‼ t)
   pub adjusted : Apart 10 overE (d11 ‼ t) (E11 b1 d1 ‼ t)

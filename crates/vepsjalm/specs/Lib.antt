@@ -1,2 +1,2 @@
--- What callers in other languages are promised.
+-- METHOD 8.5: what callers in other languages are promised.
 pub mod Numbers

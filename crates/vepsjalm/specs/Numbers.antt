@@ -1,4 +1,4 @@
--- The answers as numbers: 0 for success, else the refusal's number; its place beside it.
+-- METHOD 8.5: the answers as numbers: 0 for success, else the refusal's number; its place beside it.
 use mathlib.Core.Path.{_≡_}
 use mathlib.Core.List.{List}
 use Prim.Native.Nat.{ℕ, _<_}
@@ -12,7 +12,7 @@ use Rattle.desk_file.specs.File.{SeriesWithWeights}
 use Rattle.desk_file.specs.ReadFile.{Accepted, readAnswer, figuresAfter, weightsAfter}
 use Rattle.desk_file.specs.WriteFile.{writeAnswer, outAfter}
 
--- the number and the place of an answer
+-- METHOD 8.5: the number and the place of an answer; the place after a success is 0
 abbrev pub numberOf : {A : Type 0} → Answer A → ℕ
 numberOf (success a) = 0
 numberOf (refusal number place) = number
@@ -21,13 +21,13 @@ abbrev pub placeOf : {A : Type 0} → Answer A → ℕ
 placeOf (success a) = 0
 placeOf (refusal number place) = place
 
--- the values of a success, and 0 after a refusal
+-- METHOD 8.5: the values of a success, and 0 after a refusal
 abbrev pub valueOf : {A : Type 0} → (A → ℕ) → Answer A → ℕ
 valueOf f (success a) = f a
 valueOf f (refusal number place) = 0
 
--- decomposing: the number returned, the place left, and the slices, which settle all; `near` and the distances of each pass are carried along, as
--- in the promise of decomposing, so that no caller has to derive them
+-- decomposing: the number returned, the place left, and the slices, which settle all; `near` (METHOD 6.4, 10.3) and the distances of each pass (6.3)
+-- are carried along, as in the promise of decomposing, so that no caller has to derive them
 pub record DecomposeNumbers (start : ℕ) (figures : List ℤ) (lent : Slices) (number place : ℕ) (left : Slices) : Type 0 where
   pub number-is : number ≡ numberOf (answer start figures lent)
   pub place-is : place ≡ placeOf (answer start figures lent)

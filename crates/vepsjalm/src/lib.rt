@@ -1,4 +1,4 @@
-// Decomposing, reading and writing for callers in other languages: an answer is a number, 0 for success, else the refusal's number.
+// METHOD 8.5: decomposing, reading and writing for callers in other languages: an answer is a number, 0 for success, else the refusal's number.
 ghost use Rattle.desk_file.specs.File.{series};
 ghost use Rattle.vepsjalm.specs.Numbers.{DecomposeNumbers, ReadNumbers, WriteNumbers};
 use decompose::Decomposed;
