@@ -38,6 +38,8 @@ fn every_case_adds_back_and_keeps_its_distance() {
         halves[6] += tables.d12_halves;
     }
     println!("greatest distances of D10 to D13: {greatest:?}");
+    // A trend within 1 grain is a wrong bound (tables/must-fail/trend-within-1).
+    assert!(greatest[2] > 1.0);
     println!("halves met in T1, R1, M1, T2, R2, M2 and D12: {halves:?}; months with a weight between: {partly}");
     assert!(partly > 100);
     // 27ths never meet a half; all others do.
@@ -68,6 +70,8 @@ fn the_passes_keep_their_distance() {
         greatest[1] = greatest[1].max(s2.greatest.roughly());
     }
     println!("greatest distances of T2 and S2: {greatest:?}");
+    // S2 within 1 grain is a wrong bound (tables/must-fail/s2-within-1).
+    assert!(greatest[1] > 1.0);
 }
 
 #[test]

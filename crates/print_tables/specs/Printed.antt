@@ -1,4 +1,4 @@
--- Document 01, "The printing program": what is printed for a desk file, by what reading and decomposing answer.
+-- METHOD 9: what is printed for a desk file, by what reading and decomposing answer.
 use Prim.Native.Nat.{ℕ}
 use mathlib.Core.List.{List, []}
 use lib.IntN.{ℤ}
@@ -32,7 +32,7 @@ tablesOf start figures =
       c17 = C17 start figures;
     }
 
--- "a refusal, decomposing's too, prints `refused`, number and place on one line, and nothing else"
+-- METHOD 9.1, 9.2: the tables, or the line of a refusal by decomposing
 unfoldable pub decomposedText : Answer Unit → ℕ → List ℤ → List ℕ
 decomposedText (success _) start figures = tablesText (tablesOf start figures) start
 decomposedText (refusal number place) start figures = refusedLine number place
@@ -40,15 +40,16 @@ decomposedText (refusal number place) start figures = refusedLine number place
 unfoldable pub seriesText : ℕ → List ℤ → List ℕ
 seriesText start figures = decomposedText (seriesAnswer start figures) start figures
 
--- a refusal by the reader, and nothing for an accepted file
+-- METHOD 9.1: the line of a refusal by the reader, and nothing for an accepted file
 unfoldable pub unreadText : Answer Accepted → List ℕ
 unreadText (success _) = []
 unreadText (refusal number place) = refusedLine number place
 
--- "Otherwise the file's weights are ignored and the series decomposed."
+-- METHOD 9.1: a refusal by the reader, or what decomposing makes of the figures; the weights of an accepted file play no part
 unfoldable pub readText : Answer Accepted → List ℕ → List ℕ
 readText (success a) file = seriesText (a .start) (seriesIn file .figures)
 readText (refusal number place) file = refusedLine number place
 
+-- METHOD 9: the text for a byte string
 unfoldable pub printed : List ℕ → List ℕ
 printed file = readText (readAnswer file mostMonths mostMonths) file

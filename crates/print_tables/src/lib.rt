@@ -1,5 +1,5 @@
-// The printing program of document 01: a desk file into the text of its tables, put together in a byte array. A function that puts
-// something answers the place after it.
+// METHOD 9, the printing program: a desk file into the text of its tables, put together in a byte array. A function that puts something
+// answers the place after it.
 ghost use Prim.Native.Nat.{_≤_};
 ghost use lib.ListN.{length};
 ghost use Rattle.refusals.specs.Limits.{mostMonths};
