@@ -1,5 +1,5 @@
-//! The examples in C and Rust, built and run by the commands of their headings, beside the separately written program; and the C header's
-//! constants beside its limits and refusals.
+//! The examples in C and Rust, built and run by the commands of their headings, beside the separately written program; and the C header: its
+//! constants beside the limits and refusals, and its texts.
 
 use separate::decompose::{decompose, decompose_fitting, Lent, Refusal, Tables, FEWEST_MONTHS, FIGURE_LIMIT, MOST_MONTHS};
 use separate::desk::{bytes_of, read, write, DeskSeries};
@@ -8,8 +8,31 @@ use std::fs;
 use std::path::{Path, PathBuf};
 use std::process::{Command, Output};
 
+const VERSION: [usize; 3] = [0, 10, 0];
+
+/// The words of the refusal sheet by number, and those for every other number.
+const TEXTS: [&str; 11] = [
+    "no refusal",
+    "n below 72",
+    "n above 600",
+    "start month outside 1 to 12",
+    "a lent slice has the wrong length",
+    "a figure outside -200,000 to 200,000",
+    "dropping leaves a group empty",
+    "a file of fewer than 4 bytes",
+    "the file's period is not 12",
+    "the file's length is not 4+6n bytes",
+    "a weight above 1,000",
+];
+const NO_TEXT: &str = "no number of the refusal sheet";
+
 fn root() -> &'static Path {
     Path::new(env!("CARGO_MANIFEST_DIR")).parent().expect("the repository's folder")
+}
+
+/// A file of the tests' own.
+fn own(name: &str) -> PathBuf {
+    Path::new(env!("CARGO_TARGET_TMPDIR")).join(name)
 }
 
 fn text(bytes: &[u8]) -> String {
@@ -65,6 +88,10 @@ fn desk(figures: &[i32], start: u8) -> Vec<u8> {
     bytes_of(figures, start, 12, &vec![1000; figures.len()])
 }
 
+fn book() -> Vec<u8> {
+    desk(&book_series(), 10)
+}
+
 /// Desk files that are accepted: one with small figures, whose tables have values between -1 and 0, and the longest, at both limits.
 fn accepted() -> [Vec<u8>; 2] {
     let small: Vec<i32> = (0..72).map(|t| t * t % 7 - 3).collect();
@@ -113,7 +140,7 @@ fn try_example(source: &str, compiler: &str) {
     assert_eq!(given(&shell(&run)), book, "{run}");
     assert_eq!(given(&shell(program)), book, "{program}, which takes the same file");
 
-    let path = PathBuf::from(env!("CARGO_TARGET_TMPDIR")).join(compiler.trim()).with_extension("desk");
+    let path = own(compiler.trim()).with_extension("desk");
     let run_on = |file: &[u8]| {
         fs::write(&path, file).expect("a file");
         given(&Command::new(root().join(program)).arg(&path).output().expect("a run"))
@@ -145,13 +172,16 @@ fn number<T: std::fmt::Debug>(answer: Result<T, Refusal>) -> usize {
     answer.unwrap_err().number.into()
 }
 
-/// The header's constants, as the separately written program has them.
+/// The header's numbers, as the separately written program has them.
 fn constants() -> Vec<(&'static str, usize)> {
     let series = |n| decompose_fitting(&vec![0; n], 1);
     let file = |bytes: &[u8]| read(bytes, MOST_MONTHS, MOST_MONTHS);
     let length = |n| write(&vec![0; n], 1, &vec![0; n], usize::MAX).unwrap().len();
     let right = Lent::right_for(72);
     vec![
+        ("VERSION_MAJOR", VERSION[0]),
+        ("VERSION_MINOR", VERSION[1]),
+        ("VERSION_PATCH", VERSION[2]),
         ("LEAST_MONTHS", FEWEST_MONTHS),
         ("MOST_MONTHS", MOST_MONTHS),
         ("YEAR", 12),
@@ -175,33 +205,59 @@ fn constants() -> Vec<(&'static str, usize)> {
     ]
 }
 
-/// Builds header.c in a language, and compares what it prints and writes.
-fn try_header(compiler: &str, language: &str) {
-    let program = PathBuf::from(env!("CARGO_TARGET_TMPDIR")).join(format!("header-{language}"));
-    let options = "-Wall -Wextra -Wpedantic -Werror -I include";
-    let sources = format!("-x {language} tests/tests/header.c -x none target/staticlib/libvepsjalm.a");
-    build(&format!("{compiler} {options} -o '{}' {sources}", program.display()), &program);
-    let output = Command::new(&program).arg(root().join("examples/production.desk")).output().expect("a run");
-    let mut lines: Vec<String> = constants().iter().map(|(name, value)| format!("VEPSJALM_{name} {value}\n")).collect();
-    lines.extend(["read 0 114 10 0\n".to_string(), "write 0 688 0\n".to_string()]);
-    let file = desk(&book_series(), 10);
-    assert_eq!(text(&output.stdout[..output.stdout.len() - file.len()]), lines.concat(), "{language}");
-    assert!(output.stdout.ends_with(&file), "{language}: what was read is written again");
+#[test]
+fn every_constant_is_known() {
+    let header = fs::read_to_string(root().join("include/vepsjalm.h")).expect("the header");
+    let names: Vec<String> = header
+        .lines()
+        .filter_map(|line| line.trim_start().strip_prefix('#')?.trim_start().strip_prefix("define"))
+        .map(|rest| rest.trim_start().strip_prefix("VEPSJALM_").expect("a name of this header"))
+        .map(|rest| rest.split(' ').next().expect("a name").replace("(n)", "(72)"))
+        .collect();
+    let known: Vec<&str> = ["H", "VERSION"].into_iter().chain(constants().iter().map(|(name, _)| *name)).collect();
+    assert_eq!(names, known);
+}
+
+/// C, and C++ where there is a compiler: the compiler with its standard, and the language.
+fn languages() -> Vec<(&'static str, &'static str)> {
+    let mut languages = vec![("cc -std=c99", "c")];
+    if shell("c++ --version").status.success() {
+        languages.push(("c++ -std=c++11", "c++"));
+    }
+    languages
+}
+
+const WARNINGS: &str = "-Wall -Wextra -Wpedantic -Werror";
+
+/// Builds a source of the tests in a language.
+fn built_in(name: &str, (compiler, language): (&str, &str)) -> PathBuf {
+    let program = own(&format!("{name}-{language}"));
+    let sources = format!("-x {language} tests/tests/{name}.c -x none target/staticlib/libvepsjalm.a");
+    build(&format!("{compiler} {WARNINGS} -I include -o '{}' {sources}", program.display()), &program);
+    program
 }
 
 #[test]
 fn header_in_c_and_cpp() {
-    let header = fs::read_to_string(root().join("include/vepsjalm.h")).expect("the header");
-    let names: Vec<String> = header
-        .lines()
-        .filter_map(|line| line.strip_prefix("#define VEPSJALM_")?.split(' ').next())
-        .map(|name| name.replace("(n)", "(72)"))
-        .filter(|name| name != "H")
-        .collect();
-    let constants: Vec<&str> = constants().iter().map(|(name, _)| *name).collect();
-    assert_eq!(names, constants, "the test knows every constant");
-    try_header("cc -std=c99", "c");
-    if shell("c++ --version").status.success() {
-        try_header("c++ -std=c++11", "c++");
+    let [major, minor, patch] = VERSION;
+    let mut lines = vec![format!("VEPSJALM_VERSION {major}.{minor}.{patch}\n")];
+    lines.extend(constants().iter().map(|(name, value)| format!("VEPSJALM_{name} {value}\n")));
+    lines.extend((0..256).map(|number| format!("{number} {}\n", TEXTS.get(number).unwrap_or(&NO_TEXT))));
+    lines.extend(["read 0 114 10 0\n".to_string(), "write 0 688 0\n".to_string()]);
+    for language in languages() {
+        let program = built_in("header", language);
+        let output = Command::new(&program).arg(root().join("examples/production.desk")).output().expect("a run");
+        assert!(output.stdout.ends_with(&book()), "{language:?}: what was read is written again");
+        assert_eq!(text(&output.stdout[..output.stdout.len() - book().len()]), lines.concat(), "{language:?}");
+    }
+}
+
+/// Nothing is warned of where nothing of the header is used, and it may be included twice.
+#[test]
+fn header_alone() {
+    for (compiler, language) in languages() {
+        let object = own(&format!("alone-{language}"));
+        let source = "printf '#include \"vepsjalm.h\"\\n#include \"vepsjalm.h\"\\n'";
+        build(&format!("{source} | {compiler} {WARNINGS} -I include -x {language} -c -o '{}' -", object.display()), &object);
     }
 }
