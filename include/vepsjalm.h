@@ -105,6 +105,25 @@ uint8_t vepsjalm_decompose(
     uint16_t *b17, size_t b17_length, uint16_t *c17, size_t c17_length,
     int64_t *scratch, size_t scratch_length, size_t *place);
 
+/* Decomposing with the lent slices in a struct instead of 18 arguments: vepsjalm_decompose, with n entries of each of d10 to d13, b17 and c17.
+   That each has room for n is the caller's to see to (what is beyond stays as it was), so that VEPSJALM_WRONG_LENGTH is left for one thing,
+   a scratch of fewer than 8n entries. */
+struct vepsjalm_slices {
+    int64_t *d10, *d11, *d12, *d13;
+    uint16_t *b17, *c17;
+    int64_t *scratch;
+    size_t scratch_length;
+};
+
+static inline uint8_t vepsjalm_decompose_into(
+    const int32_t *figures, size_t figures_length, uint8_t start, const struct vepsjalm_slices *slices, size_t *place)
+{
+    return vepsjalm_decompose(
+        figures, figures_length, start, slices->d10, figures_length, slices->d11, figures_length,
+        slices->d12, figures_length, slices->d13, figures_length, slices->b17, figures_length, slices->c17, figures_length,
+        slices->scratch, slices->scratch_length, place);
+}
+
 /* Reading a desk file. It has the count n in 2 bytes, the start month in 1 and the period 12 in 1, then n figures of 4 bytes, signed, then
    n final weights of 2 bytes, all low byte first: 4+6n bytes.
 

@@ -1,12 +1,13 @@
 //! The examples in C and Rust, built and run by the commands of their headings, beside the separately written program; and the C header: its
-//! constants beside the limits and refusals, and its texts.
+//! constants beside the limits and refusals, its texts, and the call with a struct beside the plain one.
 
 use separate::decompose::{decompose, decompose_fitting, Lent, Refusal, Tables, FEWEST_MONTHS, FIGURE_LIMIT, MOST_MONTHS};
 use separate::desk::{bytes_of, read, write, DeskSeries};
 use separate::generators::book_series;
 use std::fs;
+use std::io::Write;
 use std::path::{Path, PathBuf};
-use std::process::{Command, Output};
+use std::process::{Command, Output, Stdio};
 
 const VERSION: [usize; 3] = [0, 10, 0];
 
@@ -259,5 +260,48 @@ fn header_alone() {
         let object = own(&format!("alone-{language}"));
         let source = "printf '#include \"vepsjalm.h\"\\n#include \"vepsjalm.h\"\\n'";
         build(&format!("{source} | {compiler} {WARNINGS} -I include -x {language} -c -o '{}' -", object.display()), &object);
+    }
+}
+
+/// Series for decomposing with a scratch of some length: the figures, start month and length.
+fn series_with_scratch() -> Vec<(Vec<i32>, u8, usize)> {
+    let wavy = |n: i32| -> Vec<i32> { (0..n).map(|t| t * t % 97 * 11 - 40 * (t % 12)).collect() };
+    let mut outside = wavy(72);
+    outside[44] = -200_001;
+    vec![
+        (wavy(72), 1, 576),
+        (wavy(72), 12, 5600),
+        (book_series(), 10, 912),
+        (wavy(600), 7, 4800),
+        (vec![], 1, 0),
+        (wavy(71), 13, 568),
+        (wavy(601), 1, 0),
+        (wavy(72), 0, 0),
+        (outside.clone(), 13, 576),
+        (outside.clone(), 1, 575),
+        (wavy(72), 1, 0),
+        (outside, 1, 577),
+    ]
+}
+
+#[test]
+fn struct_beside_the_plain_call() {
+    let (mut input, mut lines) = (String::new(), String::new());
+    for (figures, start, scratch) in series_with_scratch() {
+        let listed: Vec<String> = figures.iter().map(i32::to_string).collect();
+        input += &format!("{} {start} {scratch}\n{}\n", figures.len(), listed.join(" "));
+        let lent = Lent { scratch, ..Lent::right_for(figures.len()) };
+        let (number, place) = decompose(&figures, start, &lent).map_or_else(|r| (r.number, r.place), |_| (0, 0));
+        lines += &format!("{number} {place}, {number} {place}, alike\n");
+    }
+    for (row, count) in [(0, 4), (1, 2), (2, 1), (3, 2), (4, 2), (5, 1)] {
+        assert_eq!(lines.lines().filter(|line| line.starts_with(&format!("{row} "))).count(), count, "row {row}");
+    }
+    for language in languages() {
+        let mut command = Command::new(built_in("slices", language));
+        let mut running = command.stdin(Stdio::piped()).stdout(Stdio::piped()).spawn().expect("a run");
+        running.stdin.take().expect("its input").write_all(input.as_bytes()).expect("to be read");
+        let output = running.wait_with_output().expect("its end");
+        assert_eq!((output.status.code(), text(&output.stdout)), (Some(0), lines.clone()), "{language:?}");
     }
 }
