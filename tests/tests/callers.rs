@@ -8,6 +8,7 @@ use std::fs;
 use std::io::Write;
 use std::path::{Path, PathBuf};
 use std::process::{Command, Output, Stdio};
+use std::sync::LazyLock;
 
 const VERSION: [usize; 3] = [0, 10, 0];
 
@@ -27,6 +28,9 @@ const TEXTS: [&str; 11] = [
 ];
 const NO_TEXT: &str = "no number of the refusal sheet";
 
+/// The exit status where the system fails to read or write.
+const FAILED: i32 = 100;
+
 fn root() -> &'static Path {
     Path::new(env!("CARGO_MANIFEST_DIR")).parent().expect("the repository's folder")
 }
@@ -34,6 +38,11 @@ fn root() -> &'static Path {
 /// A file of the tests' own.
 fn own(name: &str) -> PathBuf {
     Path::new(env!("CARGO_TARGET_TMPDIR")).join(name)
+}
+
+fn stored(name: &str, bytes: &[u8]) -> PathBuf {
+    fs::write(own(name), bytes).expect("a file");
+    own(name)
 }
 
 fn text(bytes: &[u8]) -> String {
@@ -53,6 +62,63 @@ fn build(command: &str, program: &Path) {
     assert!(built.status.success() && program.exists(), "{command}\n{}", text(&built.stderr));
 }
 
+/// The one line of an example's heading that starts so.
+fn heading_line(source: &str, start: &str) -> String {
+    let text = fs::read_to_string(root().join(source)).expect("an example");
+    let lines: Vec<&str> = text.lines().map(|line| line.trim_start_matches("//!").trim()).filter(|l| l.starts_with(start)).collect();
+    assert_eq!(lines.len(), 1, "{source}: {start}");
+    lines[0].to_string()
+}
+
+struct Example {
+    source: &'static str,
+    program: PathBuf,
+}
+
+impl Example {
+    /// Built by the command of its heading that starts so.
+    fn built(source: &'static str, compiler: &str) -> Example {
+        let run = heading_line(source, "target/");
+        let (name, _) = run.split_once(' ').expect("a program and a file");
+        let program = root().join(name);
+        build(&heading_line(source, compiler), &program);
+        Example { source, program }
+    }
+
+    /// Built so that a file left open makes the exit status 99.
+    fn counting_streams(source: &'static str) -> Example {
+        let command = heading_line(source, "cc ");
+        let (before, after) = command.split_once("-o target/").expect("the program's name");
+        let (name, sources) = after.split_once(' ').expect("a program and its sources");
+        let program = own(&format!("{name}-streams"));
+        build(&format!("{before}-include tests/tests/streams.h -o '{}' {sources}", program.display()), &program);
+        Example { source, program }
+    }
+
+    /// The command of its heading that runs it.
+    fn run(&self) -> String {
+        heading_line(self.source, "target/")
+    }
+
+    /// Runs the program on files by the shell, in the repository's folder.
+    fn output(&self, before: &str, files: &[&Path], redirections: &str) -> Output {
+        let script = format!("{before} exec \"$0\" \"$@\" {redirections}");
+        Command::new("sh").arg("-c").arg(script).arg(&self.program).args(files).current_dir(root()).output().expect("a run")
+    }
+
+    /// Exit status, standard output, standard error.
+    fn on(&self, files: &[&Path], redirections: &str) -> (i32, String, String) {
+        given(&self.output("", files, redirections))
+    }
+}
+
+static IN_C: LazyLock<Example> = LazyLock::new(|| Example::built("examples/decompose.c", "cc "));
+static IN_RUST: LazyLock<Example> = LazyLock::new(|| Example::built("examples/decompose.rs", "rustc "));
+
+fn given(output: &Output) -> (i32, String, String) {
+    (output.status.code().expect("an exit status"), text(&output.stdout), text(&output.stderr))
+}
+
 /// Thousandths as units with three decimals, by whole numbers.
 fn units(thousandths: i64) -> String {
     let (sign, size) = if thousandths < 0 { ("-", -thousandths) } else { ("", thousandths) };
@@ -69,20 +135,23 @@ fn tables_text(figures: &[i32], tables: &Tables) -> String {
     text
 }
 
-/// What an example must give for a file: exit status, standard output, standard error.
-fn expected(file: &[u8]) -> (i32, String, String) {
-    let worked = read(file, MOST_MONTHS, MOST_MONTHS).and_then(|DeskSeries { figures, start, .. }| {
-        let tables = decompose_fitting(&figures, start)?;
-        Ok(tables_text(&figures, &tables))
-    });
-    match worked {
-        Ok(tables) => (0, tables, String::new()),
-        Err(refusal) => (refusal.number.into(), String::new(), format!("{refusal}\n")),
-    }
+fn worked(file: &[u8]) -> Result<(DeskSeries, Tables), Refusal> {
+    let series = read(file, MOST_MONTHS, MOST_MONTHS)?;
+    let tables = decompose_fitting(&series.figures, series.start)?;
+    Ok((series, tables))
 }
 
-fn given(output: &Output) -> (i32, String, String) {
-    (output.status.code().expect("an exit status"), text(&output.stdout), text(&output.stderr))
+/// What a refusal puts on standard error.
+fn refusal_line(number: u8, place: usize) -> String {
+    format!("refused {number} {place}: {}\n", TEXTS[usize::from(number)])
+}
+
+/// What an example that prints tables must give for a file: exit status, standard output, standard error.
+fn expected(file: &[u8]) -> (i32, String, String) {
+    match worked(file) {
+        Ok((series, tables)) => (0, tables_text(&series.figures, &tables), String::new()),
+        Err(Refusal { number, place }) => (number.into(), String::new(), refusal_line(number, place)),
+    }
 }
 
 fn desk(figures: &[i32], start: u8) -> Vec<u8> {
@@ -93,12 +162,15 @@ fn book() -> Vec<u8> {
     desk(&book_series(), 10)
 }
 
-/// Desk files that are accepted: one with small figures, whose tables have values between -1 and 0, and the longest, at both limits.
+/// Desk files that are accepted: one with small figures, whose tables have values between -1 and 0, and with weights that are not its final
+/// ones; and the longest, at both limits.
 fn accepted() -> [Vec<u8>; 2] {
     let small: Vec<i32> = (0..72).map(|t| t * t % 7 - 3).collect();
+    let weights: Vec<u16> = (0..72).map(|t| t * 14).collect();
     let large: Vec<i32> = (0..600).map(|t| if t * t % 11 < 4 { FIGURE_LIMIT } else { -FIGURE_LIMIT }).collect();
-    assert!(expected(&desk(&small, 7)).1.contains(" -0."));
-    [desk(&small, 7), desk(&large, 1)]
+    let small = bytes_of(&small, 7, 12, &weights);
+    assert!(expected(&small).1.contains(" -0."));
+    [small, desk(&large, 1)]
 }
 
 /// Desk files that are refused, with the number and the place.
@@ -123,50 +195,97 @@ fn refused() -> Vec<(Vec<u8>, u8, usize)> {
     ]
 }
 
-/// The one line of an example's heading that starts so.
-fn heading_line(source: &str, start: &str) -> String {
-    let text = fs::read_to_string(root().join(source)).expect("an example");
-    let lines: Vec<&str> = text.lines().map(|line| line.trim_start_matches("//!").trim()).filter(|l| l.starts_with(start)).collect();
-    assert_eq!(lines.len(), 1, "{source}: {start}");
-    lines[0].to_string()
-}
-
-fn try_example(source: &str, compiler: &str) {
-    let run = heading_line(source, "target/");
-    let (program, file) = run.split_once(' ').expect("a program and a file");
-    assert_eq!(file, "examples/production.desk");
-    build(&heading_line(source, compiler), &root().join(program));
-    let book = expected(&desk(&book_series(), 10));
-    assert_eq!(book.1.lines().count(), 115);
-    assert_eq!(given(&shell(&run)), book, "{run}");
-    assert_eq!(given(&shell(program)), book, "{program}, which takes the same file");
-
-    let path = own(compiler.trim()).with_extension("desk");
-    let run_on = |file: &[u8]| {
-        fs::write(&path, file).expect("a file");
-        given(&Command::new(root().join(program)).arg(&path).output().expect("a run"))
-    };
+/// The tables of files that are accepted, and the lines of those that are refused.
+fn try_printing(example: &Example, name: &str) {
+    let run = &example.run();
+    assert!(run.ends_with(" examples/production.desk"));
+    assert_eq!(expected(&book()).1.lines().count(), 115);
+    assert_eq!(given(&shell(run)), expected(&book()), "{run}");
+    assert_eq!(example.on(&[], ""), expected(&book()), "{run}, without the name of the same file");
     for file in accepted() {
         assert_eq!(expected(&file).0, 0);
-        assert_eq!(run_on(&file), expected(&file), "{program}, {} bytes", file.len());
+        assert_eq!(example.on(&[&stored(name, &file)], ""), expected(&file), "{run}, {} bytes", file.len());
     }
     for (file, number, place) in refused() {
-        assert_eq!(expected(&file), (number.into(), String::new(), format!("refused {number} {place}\n")));
-        assert_eq!(run_on(&file), expected(&file), "{program}, {} bytes", file.len());
+        assert_eq!(expected(&file), (number.into(), String::new(), refusal_line(number, place)));
+        assert_eq!(example.on(&[&stored(name, &file)], ""), expected(&file), "{run}, {} bytes", file.len());
     }
-    fs::remove_file(&path).expect("a file");
-    let unread = Command::new(root().join(program)).arg(&path).output().expect("a run");
-    assert_eq!((unread.status.code(), unread.stdout.len()), (Some(100), 0), "{program}, no file");
 }
 
 #[test]
 fn example_in_c() {
-    try_example("examples/decompose.c", "cc ");
+    try_printing(&IN_C, "printed-in-c.desk");
 }
 
 #[test]
 fn example_in_rust() {
-    try_example("examples/decompose.rs", "rustc ");
+    try_printing(&IN_RUST, "printed-in-rust.desk");
+}
+
+/// One line on standard error that starts so; nothing on standard output.
+fn assert_failed(given: (i32, String, String), start: &str, what: &str) {
+    assert_eq!((given.0, given.1.as_str()), (FAILED, ""), "{what}");
+    assert!(given.2.starts_with(start) && given.2.ends_with('\n') && given.2.lines().count() == 1, "{what}: {}", given.2);
+}
+
+/// Output that fails at the end only: the shell lets a file have 8,192 bytes.
+fn try_cut_output(example: &Example, book_file: &Path) {
+    let cut = book_file.with_extension("cut");
+    let output = example.output("trap '' XFSZ; ulimit -f 16;", &[book_file], &format!(">'{}'", cut.display()));
+    assert_failed(given(&output), "standard output: File too large", "cut output");
+    let whole = expected(&book()).1;
+    assert!((8193..12288).contains(&whole.len()), "buffers of 4,096 bytes: all but the last go out");
+    assert_eq!(text(&fs::read(&cut).expect("a file")), whole[..8192]);
+}
+
+/// Input and output that fail, and refusals; also where standard error is full or closed.
+fn try_failing(example: &Example, name: &str) {
+    let (missing, folder) = (own("missing.desk"), root().join("examples"));
+    let book_file = stored(name, &book());
+    for (file, why) in [(&missing, "No such file or directory"), (&folder, "Is a directory")] {
+        let named = format!("{}: {why}", file.display());
+        assert_failed(example.on(&[file], ""), &named, &named);
+        for redirection in ["2>/dev/full", "2>&-", ">&- 2>&-"] {
+            assert_eq!(example.on(&[file], redirection), (FAILED, String::new(), String::new()), "{named}, {redirection}");
+        }
+    }
+    assert_failed(example.on(&[&book_file], ">/dev/full"), "standard output: No space left on device", "full output");
+    for redirections in [">/dev/full 2>/dev/full", ">/dev/full 2>&-"] {
+        assert_eq!(example.on(&[&book_file], redirections), (FAILED, String::new(), String::new()), "{redirections}");
+    }
+    for redirection in ["2>/dev/full", "2>&-"] {
+        assert_eq!(example.on(&[&book_file], redirection), expected(&book()), "{redirection}");
+    }
+    try_cut_output(example, &book_file);
+    for (file, number, _) in refused() {
+        let refused_file = stored(name, &file);
+        for redirections in ["2>/dev/full", "2>&-", ">&- 2>&-"] {
+            assert_eq!(example.on(&[&refused_file], redirections), (number.into(), String::new(), String::new()), "{redirections}");
+        }
+    }
+}
+
+#[test]
+fn failing_input_and_output_in_c() {
+    try_failing(&IN_C, "failing-in-c.desk");
+    let book_file = stored("closed-in-c.desk", &book());
+    assert_failed(IN_C.on(&[&book_file], ">&-"), "standard output: Bad file descriptor", "closed output");
+}
+
+#[test]
+fn failing_input_and_output_in_rust() {
+    try_failing(&IN_RUST, "failing-in-rust.desk");
+    let book_file = stored("closed-in-rust.desk", &book());
+    assert_eq!(IN_RUST.on(&[&book_file], ">&-"), (0, String::new(), String::new()), "the null device for closed output");
+}
+
+#[test]
+fn example_in_c_closes_its_file() {
+    let [book_file, refused_file] = [stored("closing.desk", &book()), stored("closing-refused.desk", b"")];
+    let printing = Example::counting_streams("examples/decompose.c");
+    for (from, status) in [(book_file, 0), (refused_file, 7), (root().join("examples"), FAILED), (own("missing.desk"), FAILED)] {
+        assert_eq!(printing.on(&[&from], "").0, status, "printing {}", from.display());
+    }
 }
 
 fn number<T: std::fmt::Debug>(answer: Result<T, Refusal>) -> usize {
@@ -261,6 +380,18 @@ fn header_alone() {
         let source = "printf '#include \"vepsjalm.h\"\\n#include \"vepsjalm.h\"\\n'";
         build(&format!("{source} | {compiler} {WARNINGS} -I include -x {language} -c -o '{}' -", object.display()), &object);
     }
+}
+
+/// The Rust example has the header's words, for every number.
+#[test]
+fn texts_in_rust() {
+    let source = fs::read_to_string(root().join("examples/decompose.rs")).expect("an example");
+    let (_, after) = source.split_once("\nfn refusal_text(").expect("the function");
+    let (body, _) = after.split_once("\n}").expect("its end");
+    let words: Vec<String> = body.lines().filter(|line| line.contains("=>")).map(|line| line.trim().to_string()).collect();
+    let mut wanted: Vec<String> = TEXTS.iter().enumerate().map(|(number, text)| format!("{number} => {text:?},")).collect();
+    wanted.push(format!("_ => {NO_TEXT:?},"));
+    assert_eq!(words, wanted);
 }
 
 /// Series for decomposing with a scratch of some length: the figures, start month and length.
