@@ -1,6 +1,6 @@
 /* Vepsjalm: seasonal adjustment of a monthly series by the additive X-11 method, and its desk file. For C99 or later, and for C++.
    `rt staticlib vepsjalm` in the repository's folder writes the library, target/staticlib/libvepsjalm.a, for x86-64 Linux; beside it only the
-   C library is needed. examples/decompose.c is a whole caller of reading and decomposing.
+   C library is needed. examples/decompose.c is a whole caller of reading and decomposing, examples/final-weights.c of writing too.
 
    The filters are fixed: 2x12, 3x3, 3x5 and 13-term Henderson with Musgrave's ends. No multiplicative working, calendar effects, forecasts
    or choice of filter length.

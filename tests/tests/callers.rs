@@ -6,6 +6,7 @@ use separate::desk::{bytes_of, read, write, DeskSeries};
 use separate::generators::book_series;
 use std::fs;
 use std::io::Write;
+use std::os::unix::fs::symlink;
 use std::path::{Path, PathBuf};
 use std::process::{Command, Output, Stdio};
 use std::sync::LazyLock;
@@ -114,6 +115,7 @@ impl Example {
 
 static IN_C: LazyLock<Example> = LazyLock::new(|| Example::built("examples/decompose.c", "cc "));
 static IN_RUST: LazyLock<Example> = LazyLock::new(|| Example::built("examples/decompose.rs", "rustc "));
+static FINAL_WEIGHTS: LazyLock<Example> = LazyLock::new(|| Example::built("examples/final-weights.c", "cc "));
 
 fn given(output: &Output) -> (i32, String, String) {
     (output.status.code().expect("an exit status"), text(&output.stdout), text(&output.stderr))
@@ -279,13 +281,115 @@ fn failing_input_and_output_in_rust() {
     assert_eq!(IN_RUST.on(&[&book_file], ">&-"), (0, String::new(), String::new()), "the null device for closed output");
 }
 
+/// What final-weights must write for a file: the series with its C17.
+fn with_final_weights(file: &[u8]) -> Vec<u8> {
+    let (series, tables) = worked(file).expect("an accepted file");
+    bytes_of(&series.figures, series.start, 12, &tables.c17)
+}
+
+/// A name with no file.
+fn free(name: &str) -> PathBuf {
+    let _ = fs::remove_file(own(name));
+    assert!(!own(name).exists() && !own(name).is_symlink());
+    own(name)
+}
+
+const SILENT: (i32, String, String) = (0, String::new(), String::new());
+
 #[test]
-fn example_in_c_closes_its_file() {
-    let [book_file, refused_file] = [stored("closing.desk", &book()), stored("closing-refused.desk", b"")];
-    let printing = Example::counting_streams("examples/decompose.c");
-    for (from, status) in [(book_file, 0), (refused_file, 7), (root().join("examples"), FAILED), (own("missing.desk"), FAILED)] {
-        assert_eq!(printing.on(&[&from], "").0, status, "printing {}", from.display());
+fn final_weights() {
+    let run = FINAL_WEIGHTS.run();
+    let by_heading = root().join(run.rsplit_once(' ').expect("two files").1);
+    let _ = fs::remove_file(&by_heading);
+    assert_eq!(given(&shell(&run)), SILENT, "{run}");
+    assert_eq!(fs::read(&by_heading).expect("a file"), with_final_weights(&book()));
+    assert_ne!(with_final_weights(&book()), book());
+    for file in accepted() {
+        for redirections in ["", ">/dev/full", ">&-", "2>&-", ">&- 2>&-", "<&- >&- 2>&-"] {
+            let (from, to) = (stored("in.desk", &file), free("out.desk"));
+            assert_eq!(FINAL_WEIGHTS.on(&[&from, &to], redirections), SILENT, "{redirections}");
+            assert_eq!(fs::read(&to).expect("a file"), with_final_weights(&file), "{redirections}");
+        }
     }
+}
+
+#[test]
+fn final_weights_without_input() {
+    let to = free("not-made.desk");
+    for (file, number, place) in refused() {
+        let from = stored("refused.desk", &file);
+        assert_eq!(FINAL_WEIGHTS.on(&[&from, &to], ""), (number.into(), String::new(), refusal_line(number, place)));
+        for redirection in ["2>/dev/full", "2>&-"] {
+            assert_eq!(FINAL_WEIGHTS.on(&[&from, &to], redirection), (number.into(), String::new(), String::new()), "{redirection}");
+        }
+    }
+    for (from, why) in [(own("missing.desk"), "No such file or directory"), (root().join("examples"), "Is a directory")] {
+        let named = format!("{}: {why}", from.display());
+        assert_failed(FINAL_WEIGHTS.on(&[&from, &to], ""), &named, &named);
+    }
+    for files in [&[][..], &[to.as_path()], &[to.as_path(); 3]] {
+        assert_failed(FINAL_WEIGHTS.on(files, ""), "usage: final-weights IN.desk OUT.desk", "usage");
+    }
+    assert!(!to.exists());
+}
+
+#[test]
+fn final_weights_without_output() {
+    let [_, longest] = accepted();
+    let from = stored("longest.desk", &longest);
+    let (there, full) = (stored("there.desk", b"what was there"), free("full.desk"));
+    symlink("/dev/full", &full).expect("a name for the full device");
+    for (to, why) in [
+        (there.clone(), "File exists"),
+        (from.clone(), "File exists"),
+        (full.clone(), "File exists"),
+        (root().join("examples"), "File exists"),
+        (own("no-folder/out.desk"), "No such file or directory"),
+    ] {
+        let named = format!("{}: {why}", to.display());
+        assert_failed(FINAL_WEIGHTS.on(&[&from, &to], ""), &named, &named);
+        for redirection in ["2>/dev/full", "2>&-"] {
+            assert_eq!(FINAL_WEIGHTS.on(&[&from, &to], redirection), (FAILED, String::new(), String::new()), "{named}, {redirection}");
+        }
+    }
+    assert_eq!(fs::read(&there).expect("a file"), b"what was there");
+    assert_eq!(fs::read(&from).expect("a file"), longest);
+    assert!(full.is_symlink());
+}
+
+/// The shell lets a file have 512 bytes: writing the longest fails half-way.
+const HALF: &str = "trap '' XFSZ; ulimit -f 1;";
+
+#[test]
+fn final_weights_removes_what_is_half_written() {
+    let [_, longest] = accepted();
+    let from = stored("whole.desk", &longest);
+    let cut = own("half.desk");
+    let half = shell(&format!("{HALF} cat '{}' > '{}'", from.display(), cut.display()));
+    assert!(!half.status.success() && fs::metadata(&cut).expect("half a file").len() == 512);
+    for (redirection, line) in [("", "File too large\n"), ("2>&-", "")] {
+        let to = free("half-written.desk");
+        let (status, output, error) = given(&FINAL_WEIGHTS.output(HALF, &[&from, &to], redirection));
+        let line = if line.is_empty() { String::new() } else { format!("{}: {line}", to.display()) };
+        assert_eq!((status, output.as_str(), error), (FAILED, "", line), "{redirection}");
+        assert!(!to.exists(), "{redirection}");
+    }
+}
+
+#[test]
+fn examples_in_c_close_their_files() {
+    let [book_file, refused_file] = [stored("closing.desk", &book()), stored("closing-refused.desk", b"")];
+    let (folder, missing) = (root().join("examples"), own("missing.desk"));
+    let printing = Example::counting_streams("examples/decompose.c");
+    let writing = Example::counting_streams("examples/final-weights.c");
+    for (from, status) in [(&book_file, 0), (&refused_file, 7), (&folder, FAILED), (&missing, FAILED)] {
+        assert_eq!(printing.on(&[from], "").0, status, "printing {}", from.display());
+        assert_eq!(writing.on(&[from, &free("closed.desk")], "").0, status, "writing from {}", from.display());
+    }
+    let [_, longest] = accepted();
+    let from = stored("closing-longest.desk", &longest);
+    let half = writing.output(HALF, &[&from, &free("closed.desk")], "");
+    assert_eq!(half.status.code(), Some(FAILED), "half-written");
 }
 
 fn number<T: std::fmt::Debug>(answer: Result<T, Refusal>) -> usize {
