@@ -1,13 +1,16 @@
 //! Reads a desk file, examples/production.desk if none is named, and prints its tables: t (the month, counted from 0), figure, D10, D11, D12,
 //! D13 in units, and the weights B17 and C17. The file's own weights are checked and not used. A refusal goes to standard error with its
-//! number and place, and its number is the exit status; 100 if reading or printing fails. In the repository's folder:
+//! number, place and text, and its number is the exit status; 100 if reading or printing fails (where standard output is closed, Rust prints
+//! to the null device). In the repository's folder:
 //!
 //!     rt staticlib vepsjalm
 //!     rustc --edition 2021 -O -D warnings -L target/staticlib -o target/decompose-rust examples/decompose.rs
 //!     target/decompose-rust examples/production.desk
 
+use std::ffi::OsStr;
+use std::fmt::Display;
 use std::fs::File;
-use std::io::{Read, Write};
+use std::io::{stderr, stdout, Error, Read, Write};
 use std::process::ExitCode;
 
 // As in include/vepsjalm.h, which says what each asks and leaves. A slice is a pointer and its length.
@@ -29,6 +32,24 @@ extern "C" {
 const MOST_MONTHS: usize = 600;
 const LONGEST_FILE: u64 = 3604;
 const FAILED: u8 = 100; // the exit status where the system fails to read or print: no refusal has this number
+
+/// When each number of the refusal sheet is the answer, in the header's words.
+fn refusal_text(number: u8) -> &'static str {
+    match number {
+        0 => "no refusal",
+        1 => "n below 72",
+        2 => "n above 600",
+        3 => "start month outside 1 to 12",
+        4 => "a lent slice has the wrong length",
+        5 => "a figure outside -200,000 to 200,000",
+        6 => "dropping leaves a group empty",
+        7 => "a file of fewer than 4 bytes",
+        8 => "the file's period is not 12",
+        9 => "the file's length is not 4+6n bytes",
+        10 => "a weight above 1,000",
+        _ => "no number of the refusal sheet",
+    }
+}
 
 /// The figures and the start month, or a refusal's number and place.
 fn read(file: &[u8]) -> Result<(Vec<i32>, u8), (u8, usize)> {
@@ -67,20 +88,43 @@ fn tables(figures: &[i32], start: u8) -> Result<String, (u8, usize)> {
 }
 
 /// The file, or its first bytes: one more than the longest desk file, so that a longer one is seen to be too long.
-fn load(name: &std::ffi::OsStr) -> std::io::Result<Vec<u8>> {
+fn load(name: &OsStr) -> Result<Vec<u8>, Error> {
     let mut file = Vec::new();
     File::open(name)?.take(LONGEST_FILE + 1).read_to_end(&mut file)?;
     Ok(file)
 }
 
+fn print(text: &str) -> Result<(), Error> {
+    stdout().write_all(text.as_bytes())?;
+    stdout().flush()
+}
+
+/// Puts a line on standard error; where that fails, the exit status alone tells what happened (eprintln! would panic).
+fn say(line: impl Display) {
+    let _ = writeln!(stderr(), "{line}");
+}
+
+/// Says what failed (a file's name, or standard output) and why; the exit status.
+fn failed(what: impl Display, error: Error) -> u8 {
+    say(format_args!("{what}: {error}"));
+    FAILED
+}
+
+/// Says the refusal; the exit status.
+fn refused((number, place): (u8, usize)) -> u8 {
+    say(format_args!("refused {number} {place}: {}", refusal_text(number)));
+    number
+}
+
+/// The exit status where the tables could not be printed.
+fn run(name: &OsStr) -> Result<(), u8> {
+    let file = load(name).map_err(|error| failed(name.display(), error))?;
+    let (figures, start) = read(&file).map_err(refused)?;
+    let text = tables(&figures, start).map_err(refused)?;
+    print(&text).map_err(|error| failed("standard output", error))
+}
+
 fn main() -> ExitCode {
     let name = std::env::args_os().nth(1).unwrap_or("examples/production.desk".into());
-    let printed = load(&name).and_then(|file| match read(&file).and_then(|(figures, start)| tables(&figures, start)) {
-        Ok(text) => std::io::stdout().write_all(text.as_bytes()).map(|()| 0),
-        Err((number, place)) => writeln!(std::io::stderr(), "refused {number} {place}").map(|()| number),
-    });
-    ExitCode::from(printed.unwrap_or_else(|error| {
-        eprintln!("{}: {error}", name.display());
-        FAILED
-    }))
+    ExitCode::from(run(&name).err().unwrap_or(0))
 }

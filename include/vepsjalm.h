@@ -1,6 +1,6 @@
 /* Vepsjalm: seasonal adjustment of a monthly series by the additive X-11 method, and its desk file. For C99 or later, and for C++.
    `rt staticlib vepsjalm` in the repository's folder writes the library, target/staticlib/libvepsjalm.a, for x86-64 Linux; beside it only the
-   C library is needed. examples/decompose.c is a whole caller of reading and decomposing.
+   C library is needed. examples/decompose.c is a whole caller of reading and decomposing, examples/final-weights.c of writing too.
 
    The filters are fixed: 2x12, 3x3, 3x5 and 13-term Henderson with Musgrave's ends. No multiplicative working, calendar effects, forecasts
    or choice of filter length.
@@ -23,6 +23,14 @@
 #include <stddef.h>
 #include <stdint.h>
 
+/* The version of this header and of the library that goes with it (the library does not tell its own), major.minor.patch. The minor number
+   goes up with every landing that changes what callers see, the patch number with every other; the major number is 0 while functions and
+   constants may still change. */
+#define VEPSJALM_VERSION "0.10.0"
+#define VEPSJALM_VERSION_MAJOR 0
+#define VEPSJALM_VERSION_MINOR 10
+#define VEPSJALM_VERSION_PATCH 0
+
 /* The limits. */
 #define VEPSJALM_LEAST_MONTHS 72       /* months of a series, n */
 #define VEPSJALM_MOST_MONTHS 600
@@ -36,23 +44,43 @@
 #define VEPSJALM_FILE_LENGTH(n) (4 + 6 * (n))
 #define VEPSJALM_LONGEST_FILE VEPSJALM_FILE_LENGTH(VEPSJALM_MOST_MONTHS)
 
-/* The refusal sheet: number, when, and what the place holds. t is a month's place in the series, counted from 0; n is the number of
-   figures in decomposing and writing, the file's count in reading.
+/* The refusal sheet. The words of vepsjalm_refusal_text say when each number is the answer; n is the number of figures in decomposing and
+   writing, the file's count in reading. The place is t of the first such figure or weight for VEPSJALM_FIGURE_OUTSIDE and
+   VEPSJALM_WEIGHT_ABOVE, where t is a month's place in the series, counted from 0; it is 0 for all others.
 
    Decomposing checks 1, 2, 3, 4, 5, 6; reading 7, 1, 2, 3, 8, 9, 4, 5, 10; writing 1, 2, 3, 4, 5, 10. The first that applies is the
    answer, so that all figures are looked at before any weight. A refusal changes no slice; only 6, which is proved never to happen,
    would leave the scratch as success does. */
-#define VEPSJALM_SUCCESS 0             /* no refusal                                             0 */
-#define VEPSJALM_TOO_SHORT 1           /* n below 72                                             0 */
-#define VEPSJALM_TOO_LONG 2            /* n above 600                                            0 */
-#define VEPSJALM_BAD_START 3           /* start month outside 1 to 12                            0 */
-#define VEPSJALM_WRONG_LENGTH 4        /* a lent slice has the wrong length                      0 */
-#define VEPSJALM_FIGURE_OUTSIDE 5      /* a figure outside -200,000 to 200,000                   t of the first such figure */
-#define VEPSJALM_EMPTY_GROUP 6         /* dropping leaves a group empty                          0 */
-#define VEPSJALM_NO_HEADER 7           /* a file of fewer than 4 bytes                           0 */
-#define VEPSJALM_BAD_PERIOD 8          /* the file's period is not 12                            0 */
-#define VEPSJALM_BAD_FILE_LENGTH 9     /* the file's length is not 4+6n bytes                    0 */
-#define VEPSJALM_WEIGHT_ABOVE 10       /* a weight above 1,000                                   t of the first such weight */
+#define VEPSJALM_SUCCESS 0
+#define VEPSJALM_TOO_SHORT 1
+#define VEPSJALM_TOO_LONG 2
+#define VEPSJALM_BAD_START 3
+#define VEPSJALM_WRONG_LENGTH 4
+#define VEPSJALM_FIGURE_OUTSIDE 5
+#define VEPSJALM_EMPTY_GROUP 6
+#define VEPSJALM_NO_HEADER 7
+#define VEPSJALM_BAD_PERIOD 8
+#define VEPSJALM_BAD_FILE_LENGTH 9
+#define VEPSJALM_WEIGHT_ABOVE 10
+
+/* A constant text for any number. */
+static inline const char *vepsjalm_refusal_text(uint8_t number)
+{
+    switch (number) {
+    case VEPSJALM_SUCCESS:         return "no refusal";
+    case VEPSJALM_TOO_SHORT:       return "n below 72";
+    case VEPSJALM_TOO_LONG:        return "n above 600";
+    case VEPSJALM_BAD_START:       return "start month outside 1 to 12";
+    case VEPSJALM_WRONG_LENGTH:    return "a lent slice has the wrong length";
+    case VEPSJALM_FIGURE_OUTSIDE:  return "a figure outside -200,000 to 200,000";
+    case VEPSJALM_EMPTY_GROUP:     return "dropping leaves a group empty";
+    case VEPSJALM_NO_HEADER:       return "a file of fewer than 4 bytes";
+    case VEPSJALM_BAD_PERIOD:      return "the file's period is not 12";
+    case VEPSJALM_BAD_FILE_LENGTH: return "the file's length is not 4+6n bytes";
+    case VEPSJALM_WEIGHT_ABOVE:    return "a weight above 1,000";
+    default:                       return "no number of the refusal sheet";
+    }
+}
 
 #ifdef __cplusplus
 extern "C" {
@@ -76,6 +104,25 @@ uint8_t vepsjalm_decompose(
     int64_t *d12, size_t d12_length, int64_t *d13, size_t d13_length,
     uint16_t *b17, size_t b17_length, uint16_t *c17, size_t c17_length,
     int64_t *scratch, size_t scratch_length, size_t *place);
+
+/* Decomposing with the lent slices in a struct instead of 18 arguments: vepsjalm_decompose, with n entries of each of d10 to d13, b17 and c17.
+   That each has room for n is the caller's to see to (what is beyond stays as it was), so that VEPSJALM_WRONG_LENGTH is left for one thing,
+   a scratch of fewer than 8n entries. */
+struct vepsjalm_slices {
+    int64_t *d10, *d11, *d12, *d13;
+    uint16_t *b17, *c17;
+    int64_t *scratch;
+    size_t scratch_length;
+};
+
+static inline uint8_t vepsjalm_decompose_into(
+    const int32_t *figures, size_t figures_length, uint8_t start, const struct vepsjalm_slices *slices, size_t *place)
+{
+    return vepsjalm_decompose(
+        figures, figures_length, start, slices->d10, figures_length, slices->d11, figures_length,
+        slices->d12, figures_length, slices->d13, figures_length, slices->b17, figures_length, slices->c17, figures_length,
+        slices->scratch, slices->scratch_length, place);
+}
 
 /* Reading a desk file. It has the count n in 2 bytes, the start month in 1 and the period 12 in 1, then n figures of 4 bytes, signed, then
    n final weights of 2 bytes, all low byte first: 4+6n bytes.

@@ -1,15 +1,49 @@
-//! The examples in C and Rust, built and run by the commands of their headings, beside the separately written program; and the C header's
-//! constants beside its limits and refusals.
+//! The examples in C and Rust, built and run by the commands of their headings, beside the separately written program; and the C header: its
+//! constants beside the limits and refusals, its texts, and the call with a struct beside the plain one.
 
 use separate::decompose::{decompose, decompose_fitting, Lent, Refusal, Tables, FEWEST_MONTHS, FIGURE_LIMIT, MOST_MONTHS};
 use separate::desk::{bytes_of, read, write, DeskSeries};
 use separate::generators::book_series;
 use std::fs;
+use std::io::Write;
+use std::os::unix::fs::symlink;
 use std::path::{Path, PathBuf};
-use std::process::{Command, Output};
+use std::process::{Command, Output, Stdio};
+use std::sync::LazyLock;
+
+const VERSION: [usize; 3] = [0, 10, 0];
+
+/// The words of the refusal sheet by number, and those for every other number.
+const TEXTS: [&str; 11] = [
+    "no refusal",
+    "n below 72",
+    "n above 600",
+    "start month outside 1 to 12",
+    "a lent slice has the wrong length",
+    "a figure outside -200,000 to 200,000",
+    "dropping leaves a group empty",
+    "a file of fewer than 4 bytes",
+    "the file's period is not 12",
+    "the file's length is not 4+6n bytes",
+    "a weight above 1,000",
+];
+const NO_TEXT: &str = "no number of the refusal sheet";
+
+/// The exit status where the system fails to read or write.
+const FAILED: i32 = 100;
 
 fn root() -> &'static Path {
     Path::new(env!("CARGO_MANIFEST_DIR")).parent().expect("the repository's folder")
+}
+
+/// A file of the tests' own.
+fn own(name: &str) -> PathBuf {
+    Path::new(env!("CARGO_TARGET_TMPDIR")).join(name)
+}
+
+fn stored(name: &str, bytes: &[u8]) -> PathBuf {
+    fs::write(own(name), bytes).expect("a file");
+    own(name)
 }
 
 fn text(bytes: &[u8]) -> String {
@@ -29,6 +63,64 @@ fn build(command: &str, program: &Path) {
     assert!(built.status.success() && program.exists(), "{command}\n{}", text(&built.stderr));
 }
 
+/// The one line of an example's heading that starts so.
+fn heading_line(source: &str, start: &str) -> String {
+    let text = fs::read_to_string(root().join(source)).expect("an example");
+    let lines: Vec<&str> = text.lines().map(|line| line.trim_start_matches("//!").trim()).filter(|l| l.starts_with(start)).collect();
+    assert_eq!(lines.len(), 1, "{source}: {start}");
+    lines[0].to_string()
+}
+
+struct Example {
+    source: &'static str,
+    program: PathBuf,
+}
+
+impl Example {
+    /// Built by the command of its heading that starts so.
+    fn built(source: &'static str, compiler: &str) -> Example {
+        let run = heading_line(source, "target/");
+        let (name, _) = run.split_once(' ').expect("a program and a file");
+        let program = root().join(name);
+        build(&heading_line(source, compiler), &program);
+        Example { source, program }
+    }
+
+    /// Built so that a file left open makes the exit status 99.
+    fn counting_streams(source: &'static str) -> Example {
+        let command = heading_line(source, "cc ");
+        let (before, after) = command.split_once("-o target/").expect("the program's name");
+        let (name, sources) = after.split_once(' ').expect("a program and its sources");
+        let program = own(&format!("{name}-streams"));
+        build(&format!("{before}-include tests/tests/streams.h -o '{}' {sources}", program.display()), &program);
+        Example { source, program }
+    }
+
+    /// The command of its heading that runs it.
+    fn run(&self) -> String {
+        heading_line(self.source, "target/")
+    }
+
+    /// Runs the program on files by the shell, in the repository's folder.
+    fn output(&self, before: &str, files: &[&Path], redirections: &str) -> Output {
+        let script = format!("{before} exec \"$0\" \"$@\" {redirections}");
+        Command::new("sh").arg("-c").arg(script).arg(&self.program).args(files).current_dir(root()).output().expect("a run")
+    }
+
+    /// Exit status, standard output, standard error.
+    fn on(&self, files: &[&Path], redirections: &str) -> (i32, String, String) {
+        given(&self.output("", files, redirections))
+    }
+}
+
+static IN_C: LazyLock<Example> = LazyLock::new(|| Example::built("examples/decompose.c", "cc "));
+static IN_RUST: LazyLock<Example> = LazyLock::new(|| Example::built("examples/decompose.rs", "rustc "));
+static FINAL_WEIGHTS: LazyLock<Example> = LazyLock::new(|| Example::built("examples/final-weights.c", "cc "));
+
+fn given(output: &Output) -> (i32, String, String) {
+    (output.status.code().expect("an exit status"), text(&output.stdout), text(&output.stderr))
+}
+
 /// Thousandths as units with three decimals, by whole numbers.
 fn units(thousandths: i64) -> String {
     let (sign, size) = if thousandths < 0 { ("-", -thousandths) } else { ("", thousandths) };
@@ -45,32 +137,42 @@ fn tables_text(figures: &[i32], tables: &Tables) -> String {
     text
 }
 
-/// What an example must give for a file: exit status, standard output, standard error.
-fn expected(file: &[u8]) -> (i32, String, String) {
-    let worked = read(file, MOST_MONTHS, MOST_MONTHS).and_then(|DeskSeries { figures, start, .. }| {
-        let tables = decompose_fitting(&figures, start)?;
-        Ok(tables_text(&figures, &tables))
-    });
-    match worked {
-        Ok(tables) => (0, tables, String::new()),
-        Err(refusal) => (refusal.number.into(), String::new(), format!("{refusal}\n")),
-    }
+fn worked(file: &[u8]) -> Result<(DeskSeries, Tables), Refusal> {
+    let series = read(file, MOST_MONTHS, MOST_MONTHS)?;
+    let tables = decompose_fitting(&series.figures, series.start)?;
+    Ok((series, tables))
 }
 
-fn given(output: &Output) -> (i32, String, String) {
-    (output.status.code().expect("an exit status"), text(&output.stdout), text(&output.stderr))
+/// What a refusal puts on standard error.
+fn refusal_line(number: u8, place: usize) -> String {
+    format!("refused {number} {place}: {}\n", TEXTS[usize::from(number)])
+}
+
+/// What an example that prints tables must give for a file: exit status, standard output, standard error.
+fn expected(file: &[u8]) -> (i32, String, String) {
+    match worked(file) {
+        Ok((series, tables)) => (0, tables_text(&series.figures, &tables), String::new()),
+        Err(Refusal { number, place }) => (number.into(), String::new(), refusal_line(number, place)),
+    }
 }
 
 fn desk(figures: &[i32], start: u8) -> Vec<u8> {
     bytes_of(figures, start, 12, &vec![1000; figures.len()])
 }
 
-/// Desk files that are accepted: one with small figures, whose tables have values between -1 and 0, and the longest, at both limits.
+fn book() -> Vec<u8> {
+    desk(&book_series(), 10)
+}
+
+/// Desk files that are accepted: one with small figures, whose tables have values between -1 and 0, and with weights that are not its final
+/// ones; and the longest, at both limits.
 fn accepted() -> [Vec<u8>; 2] {
     let small: Vec<i32> = (0..72).map(|t| t * t % 7 - 3).collect();
+    let weights: Vec<u16> = (0..72).map(|t| t * 14).collect();
     let large: Vec<i32> = (0..600).map(|t| if t * t % 11 < 4 { FIGURE_LIMIT } else { -FIGURE_LIMIT }).collect();
-    assert!(expected(&desk(&small, 7)).1.contains(" -0."));
-    [desk(&small, 7), desk(&large, 1)]
+    let small = bytes_of(&small, 7, 12, &weights);
+    assert!(expected(&small).1.contains(" -0."));
+    [small, desk(&large, 1)]
 }
 
 /// Desk files that are refused, with the number and the place.
@@ -95,63 +197,215 @@ fn refused() -> Vec<(Vec<u8>, u8, usize)> {
     ]
 }
 
-/// The one line of an example's heading that starts so.
-fn heading_line(source: &str, start: &str) -> String {
-    let text = fs::read_to_string(root().join(source)).expect("an example");
-    let lines: Vec<&str> = text.lines().map(|line| line.trim_start_matches("//!").trim()).filter(|l| l.starts_with(start)).collect();
-    assert_eq!(lines.len(), 1, "{source}: {start}");
-    lines[0].to_string()
-}
-
-fn try_example(source: &str, compiler: &str) {
-    let run = heading_line(source, "target/");
-    let (program, file) = run.split_once(' ').expect("a program and a file");
-    assert_eq!(file, "examples/production.desk");
-    build(&heading_line(source, compiler), &root().join(program));
-    let book = expected(&desk(&book_series(), 10));
-    assert_eq!(book.1.lines().count(), 115);
-    assert_eq!(given(&shell(&run)), book, "{run}");
-    assert_eq!(given(&shell(program)), book, "{program}, which takes the same file");
-
-    let path = PathBuf::from(env!("CARGO_TARGET_TMPDIR")).join(compiler.trim()).with_extension("desk");
-    let run_on = |file: &[u8]| {
-        fs::write(&path, file).expect("a file");
-        given(&Command::new(root().join(program)).arg(&path).output().expect("a run"))
-    };
+/// The tables of files that are accepted, and the lines of those that are refused.
+fn try_printing(example: &Example, name: &str) {
+    let run = &example.run();
+    assert!(run.ends_with(" examples/production.desk"));
+    assert_eq!(expected(&book()).1.lines().count(), 115);
+    assert_eq!(given(&shell(run)), expected(&book()), "{run}");
+    assert_eq!(example.on(&[], ""), expected(&book()), "{run}, without the name of the same file");
     for file in accepted() {
         assert_eq!(expected(&file).0, 0);
-        assert_eq!(run_on(&file), expected(&file), "{program}, {} bytes", file.len());
+        assert_eq!(example.on(&[&stored(name, &file)], ""), expected(&file), "{run}, {} bytes", file.len());
     }
     for (file, number, place) in refused() {
-        assert_eq!(expected(&file), (number.into(), String::new(), format!("refused {number} {place}\n")));
-        assert_eq!(run_on(&file), expected(&file), "{program}, {} bytes", file.len());
+        assert_eq!(expected(&file), (number.into(), String::new(), refusal_line(number, place)));
+        assert_eq!(example.on(&[&stored(name, &file)], ""), expected(&file), "{run}, {} bytes", file.len());
     }
-    fs::remove_file(&path).expect("a file");
-    let unread = Command::new(root().join(program)).arg(&path).output().expect("a run");
-    assert_eq!((unread.status.code(), unread.stdout.len()), (Some(100), 0), "{program}, no file");
 }
 
 #[test]
 fn example_in_c() {
-    try_example("examples/decompose.c", "cc ");
+    try_printing(&IN_C, "printed-in-c.desk");
 }
 
 #[test]
 fn example_in_rust() {
-    try_example("examples/decompose.rs", "rustc ");
+    try_printing(&IN_RUST, "printed-in-rust.desk");
+}
+
+/// One line on standard error that starts so; nothing on standard output.
+fn assert_failed(given: (i32, String, String), start: &str, what: &str) {
+    assert_eq!((given.0, given.1.as_str()), (FAILED, ""), "{what}");
+    assert!(given.2.starts_with(start) && given.2.ends_with('\n') && given.2.lines().count() == 1, "{what}: {}", given.2);
+}
+
+/// Output that fails at the end only: the shell lets a file have 8,192 bytes.
+fn try_cut_output(example: &Example, book_file: &Path) {
+    let cut = book_file.with_extension("cut");
+    let output = example.output("trap '' XFSZ; ulimit -f 16;", &[book_file], &format!(">'{}'", cut.display()));
+    assert_failed(given(&output), "standard output: File too large", "cut output");
+    let whole = expected(&book()).1;
+    assert!((8193..12288).contains(&whole.len()), "buffers of 4,096 bytes: all but the last go out");
+    assert_eq!(text(&fs::read(&cut).expect("a file")), whole[..8192]);
+}
+
+/// Input and output that fail, and refusals; also where standard error is full or closed.
+fn try_failing(example: &Example, name: &str) {
+    let (missing, folder) = (own("missing.desk"), root().join("examples"));
+    let book_file = stored(name, &book());
+    for (file, why) in [(&missing, "No such file or directory"), (&folder, "Is a directory")] {
+        let named = format!("{}: {why}", file.display());
+        assert_failed(example.on(&[file], ""), &named, &named);
+        for redirection in ["2>/dev/full", "2>&-", ">&- 2>&-"] {
+            assert_eq!(example.on(&[file], redirection), (FAILED, String::new(), String::new()), "{named}, {redirection}");
+        }
+    }
+    assert_failed(example.on(&[&book_file], ">/dev/full"), "standard output: No space left on device", "full output");
+    for redirections in [">/dev/full 2>/dev/full", ">/dev/full 2>&-"] {
+        assert_eq!(example.on(&[&book_file], redirections), (FAILED, String::new(), String::new()), "{redirections}");
+    }
+    for redirection in ["2>/dev/full", "2>&-"] {
+        assert_eq!(example.on(&[&book_file], redirection), expected(&book()), "{redirection}");
+    }
+    try_cut_output(example, &book_file);
+    for (file, number, _) in refused() {
+        let refused_file = stored(name, &file);
+        for redirections in ["2>/dev/full", "2>&-", ">&- 2>&-"] {
+            assert_eq!(example.on(&[&refused_file], redirections), (number.into(), String::new(), String::new()), "{redirections}");
+        }
+    }
+}
+
+#[test]
+fn failing_input_and_output_in_c() {
+    try_failing(&IN_C, "failing-in-c.desk");
+    let book_file = stored("closed-in-c.desk", &book());
+    assert_failed(IN_C.on(&[&book_file], ">&-"), "standard output: Bad file descriptor", "closed output");
+}
+
+#[test]
+fn failing_input_and_output_in_rust() {
+    try_failing(&IN_RUST, "failing-in-rust.desk");
+    let book_file = stored("closed-in-rust.desk", &book());
+    assert_eq!(IN_RUST.on(&[&book_file], ">&-"), (0, String::new(), String::new()), "the null device for closed output");
+}
+
+/// What final-weights must write for a file: the series with its C17.
+fn with_final_weights(file: &[u8]) -> Vec<u8> {
+    let (series, tables) = worked(file).expect("an accepted file");
+    bytes_of(&series.figures, series.start, 12, &tables.c17)
+}
+
+/// A name with no file.
+fn free(name: &str) -> PathBuf {
+    let _ = fs::remove_file(own(name));
+    assert!(!own(name).exists() && !own(name).is_symlink());
+    own(name)
+}
+
+const SILENT: (i32, String, String) = (0, String::new(), String::new());
+
+#[test]
+fn final_weights() {
+    let run = FINAL_WEIGHTS.run();
+    let by_heading = root().join(run.rsplit_once(' ').expect("two files").1);
+    let _ = fs::remove_file(&by_heading);
+    assert_eq!(given(&shell(&run)), SILENT, "{run}");
+    assert_eq!(fs::read(&by_heading).expect("a file"), with_final_weights(&book()));
+    assert_ne!(with_final_weights(&book()), book());
+    for file in accepted() {
+        for redirections in ["", ">/dev/full", ">&-", "2>&-", ">&- 2>&-", "<&- >&- 2>&-"] {
+            let (from, to) = (stored("in.desk", &file), free("out.desk"));
+            assert_eq!(FINAL_WEIGHTS.on(&[&from, &to], redirections), SILENT, "{redirections}");
+            assert_eq!(fs::read(&to).expect("a file"), with_final_weights(&file), "{redirections}");
+        }
+    }
+}
+
+#[test]
+fn final_weights_without_input() {
+    let to = free("not-made.desk");
+    for (file, number, place) in refused() {
+        let from = stored("refused.desk", &file);
+        assert_eq!(FINAL_WEIGHTS.on(&[&from, &to], ""), (number.into(), String::new(), refusal_line(number, place)));
+        for redirection in ["2>/dev/full", "2>&-"] {
+            assert_eq!(FINAL_WEIGHTS.on(&[&from, &to], redirection), (number.into(), String::new(), String::new()), "{redirection}");
+        }
+    }
+    for (from, why) in [(own("missing.desk"), "No such file or directory"), (root().join("examples"), "Is a directory")] {
+        let named = format!("{}: {why}", from.display());
+        assert_failed(FINAL_WEIGHTS.on(&[&from, &to], ""), &named, &named);
+    }
+    for files in [&[][..], &[to.as_path()], &[to.as_path(); 3]] {
+        assert_failed(FINAL_WEIGHTS.on(files, ""), "usage: final-weights IN.desk OUT.desk", "usage");
+    }
+    assert!(!to.exists());
+}
+
+#[test]
+fn final_weights_without_output() {
+    let [_, longest] = accepted();
+    let from = stored("longest.desk", &longest);
+    let (there, full) = (stored("there.desk", b"what was there"), free("full.desk"));
+    symlink("/dev/full", &full).expect("a name for the full device");
+    for (to, why) in [
+        (there.clone(), "File exists"),
+        (from.clone(), "File exists"),
+        (full.clone(), "File exists"),
+        (root().join("examples"), "File exists"),
+        (own("no-folder/out.desk"), "No such file or directory"),
+    ] {
+        let named = format!("{}: {why}", to.display());
+        assert_failed(FINAL_WEIGHTS.on(&[&from, &to], ""), &named, &named);
+        for redirection in ["2>/dev/full", "2>&-"] {
+            assert_eq!(FINAL_WEIGHTS.on(&[&from, &to], redirection), (FAILED, String::new(), String::new()), "{named}, {redirection}");
+        }
+    }
+    assert_eq!(fs::read(&there).expect("a file"), b"what was there");
+    assert_eq!(fs::read(&from).expect("a file"), longest);
+    assert!(full.is_symlink());
+}
+
+/// The shell lets a file have 512 bytes: writing the longest fails half-way.
+const HALF: &str = "trap '' XFSZ; ulimit -f 1;";
+
+#[test]
+fn final_weights_removes_what_is_half_written() {
+    let [_, longest] = accepted();
+    let from = stored("whole.desk", &longest);
+    let cut = own("half.desk");
+    let half = shell(&format!("{HALF} cat '{}' > '{}'", from.display(), cut.display()));
+    assert!(!half.status.success() && fs::metadata(&cut).expect("half a file").len() == 512);
+    for (redirection, line) in [("", "File too large\n"), ("2>&-", "")] {
+        let to = free("half-written.desk");
+        let (status, output, error) = given(&FINAL_WEIGHTS.output(HALF, &[&from, &to], redirection));
+        let line = if line.is_empty() { String::new() } else { format!("{}: {line}", to.display()) };
+        assert_eq!((status, output.as_str(), error), (FAILED, "", line), "{redirection}");
+        assert!(!to.exists(), "{redirection}");
+    }
+}
+
+#[test]
+fn examples_in_c_close_their_files() {
+    let [book_file, refused_file] = [stored("closing.desk", &book()), stored("closing-refused.desk", b"")];
+    let (folder, missing) = (root().join("examples"), own("missing.desk"));
+    let printing = Example::counting_streams("examples/decompose.c");
+    let writing = Example::counting_streams("examples/final-weights.c");
+    for (from, status) in [(&book_file, 0), (&refused_file, 7), (&folder, FAILED), (&missing, FAILED)] {
+        assert_eq!(printing.on(&[from], "").0, status, "printing {}", from.display());
+        assert_eq!(writing.on(&[from, &free("closed.desk")], "").0, status, "writing from {}", from.display());
+    }
+    let [_, longest] = accepted();
+    let from = stored("closing-longest.desk", &longest);
+    let half = writing.output(HALF, &[&from, &free("closed.desk")], "");
+    assert_eq!(half.status.code(), Some(FAILED), "half-written");
 }
 
 fn number<T: std::fmt::Debug>(answer: Result<T, Refusal>) -> usize {
     answer.unwrap_err().number.into()
 }
 
-/// The header's constants, as the separately written program has them.
+/// The header's numbers, as the separately written program has them.
 fn constants() -> Vec<(&'static str, usize)> {
     let series = |n| decompose_fitting(&vec![0; n], 1);
     let file = |bytes: &[u8]| read(bytes, MOST_MONTHS, MOST_MONTHS);
     let length = |n| write(&vec![0; n], 1, &vec![0; n], usize::MAX).unwrap().len();
     let right = Lent::right_for(72);
     vec![
+        ("VERSION_MAJOR", VERSION[0]),
+        ("VERSION_MINOR", VERSION[1]),
+        ("VERSION_PATCH", VERSION[2]),
         ("LEAST_MONTHS", FEWEST_MONTHS),
         ("MOST_MONTHS", MOST_MONTHS),
         ("YEAR", 12),
@@ -175,33 +429,114 @@ fn constants() -> Vec<(&'static str, usize)> {
     ]
 }
 
-/// Builds header.c in a language, and compares what it prints and writes.
-fn try_header(compiler: &str, language: &str) {
-    let program = PathBuf::from(env!("CARGO_TARGET_TMPDIR")).join(format!("header-{language}"));
-    let options = "-Wall -Wextra -Wpedantic -Werror -I include";
-    let sources = format!("-x {language} tests/tests/header.c -x none target/staticlib/libvepsjalm.a");
-    build(&format!("{compiler} {options} -o '{}' {sources}", program.display()), &program);
-    let output = Command::new(&program).arg(root().join("examples/production.desk")).output().expect("a run");
-    let mut lines: Vec<String> = constants().iter().map(|(name, value)| format!("VEPSJALM_{name} {value}\n")).collect();
-    lines.extend(["read 0 114 10 0\n".to_string(), "write 0 688 0\n".to_string()]);
-    let file = desk(&book_series(), 10);
-    assert_eq!(text(&output.stdout[..output.stdout.len() - file.len()]), lines.concat(), "{language}");
-    assert!(output.stdout.ends_with(&file), "{language}: what was read is written again");
+#[test]
+fn every_constant_is_known() {
+    let header = fs::read_to_string(root().join("include/vepsjalm.h")).expect("the header");
+    let names: Vec<String> = header
+        .lines()
+        .filter_map(|line| line.trim_start().strip_prefix('#')?.trim_start().strip_prefix("define"))
+        .map(|rest| rest.trim_start().strip_prefix("VEPSJALM_").expect("a name of this header"))
+        .map(|rest| rest.split(' ').next().expect("a name").replace("(n)", "(72)"))
+        .collect();
+    let known: Vec<&str> = ["H", "VERSION"].into_iter().chain(constants().iter().map(|(name, _)| *name)).collect();
+    assert_eq!(names, known);
+}
+
+/// C, and C++ where there is a compiler: the compiler with its standard, and the language.
+fn languages() -> Vec<(&'static str, &'static str)> {
+    let mut languages = vec![("cc -std=c99", "c")];
+    if shell("c++ --version").status.success() {
+        languages.push(("c++ -std=c++11", "c++"));
+    }
+    languages
+}
+
+const WARNINGS: &str = "-Wall -Wextra -Wpedantic -Werror";
+
+/// Builds a source of the tests in a language.
+fn built_in(name: &str, (compiler, language): (&str, &str)) -> PathBuf {
+    let program = own(&format!("{name}-{language}"));
+    let sources = format!("-x {language} tests/tests/{name}.c -x none target/staticlib/libvepsjalm.a");
+    build(&format!("{compiler} {WARNINGS} -I include -o '{}' {sources}", program.display()), &program);
+    program
 }
 
 #[test]
 fn header_in_c_and_cpp() {
-    let header = fs::read_to_string(root().join("include/vepsjalm.h")).expect("the header");
-    let names: Vec<String> = header
-        .lines()
-        .filter_map(|line| line.strip_prefix("#define VEPSJALM_")?.split(' ').next())
-        .map(|name| name.replace("(n)", "(72)"))
-        .filter(|name| name != "H")
-        .collect();
-    let constants: Vec<&str> = constants().iter().map(|(name, _)| *name).collect();
-    assert_eq!(names, constants, "the test knows every constant");
-    try_header("cc -std=c99", "c");
-    if shell("c++ --version").status.success() {
-        try_header("c++ -std=c++11", "c++");
+    let [major, minor, patch] = VERSION;
+    let mut lines = vec![format!("VEPSJALM_VERSION {major}.{minor}.{patch}\n")];
+    lines.extend(constants().iter().map(|(name, value)| format!("VEPSJALM_{name} {value}\n")));
+    lines.extend((0..256).map(|number| format!("{number} {}\n", TEXTS.get(number).unwrap_or(&NO_TEXT))));
+    lines.extend(["read 0 114 10 0\n".to_string(), "write 0 688 0\n".to_string()]);
+    for language in languages() {
+        let program = built_in("header", language);
+        let output = Command::new(&program).arg(root().join("examples/production.desk")).output().expect("a run");
+        assert!(output.stdout.ends_with(&book()), "{language:?}: what was read is written again");
+        assert_eq!(text(&output.stdout[..output.stdout.len() - book().len()]), lines.concat(), "{language:?}");
+    }
+}
+
+/// Nothing is warned of where nothing of the header is used, and it may be included twice.
+#[test]
+fn header_alone() {
+    for (compiler, language) in languages() {
+        let object = own(&format!("alone-{language}"));
+        let source = "printf '#include \"vepsjalm.h\"\\n#include \"vepsjalm.h\"\\n'";
+        build(&format!("{source} | {compiler} {WARNINGS} -I include -x {language} -c -o '{}' -", object.display()), &object);
+    }
+}
+
+/// The Rust example has the header's words, for every number.
+#[test]
+fn texts_in_rust() {
+    let source = fs::read_to_string(root().join("examples/decompose.rs")).expect("an example");
+    let (_, after) = source.split_once("\nfn refusal_text(").expect("the function");
+    let (body, _) = after.split_once("\n}").expect("its end");
+    let words: Vec<String> = body.lines().filter(|line| line.contains("=>")).map(|line| line.trim().to_string()).collect();
+    let mut wanted: Vec<String> = TEXTS.iter().enumerate().map(|(number, text)| format!("{number} => {text:?},")).collect();
+    wanted.push(format!("_ => {NO_TEXT:?},"));
+    assert_eq!(words, wanted);
+}
+
+/// Series for decomposing with a scratch of some length: the figures, start month and length.
+fn series_with_scratch() -> Vec<(Vec<i32>, u8, usize)> {
+    let wavy = |n: i32| -> Vec<i32> { (0..n).map(|t| t * t % 97 * 11 - 40 * (t % 12)).collect() };
+    let mut outside = wavy(72);
+    outside[44] = -200_001;
+    vec![
+        (wavy(72), 1, 576),
+        (wavy(72), 12, 5600),
+        (book_series(), 10, 912),
+        (wavy(600), 7, 4800),
+        (vec![], 1, 0),
+        (wavy(71), 13, 568),
+        (wavy(601), 1, 0),
+        (wavy(72), 0, 0),
+        (outside.clone(), 13, 576),
+        (outside.clone(), 1, 575),
+        (wavy(72), 1, 0),
+        (outside, 1, 577),
+    ]
+}
+
+#[test]
+fn struct_beside_the_plain_call() {
+    let (mut input, mut lines) = (String::new(), String::new());
+    for (figures, start, scratch) in series_with_scratch() {
+        let listed: Vec<String> = figures.iter().map(i32::to_string).collect();
+        input += &format!("{} {start} {scratch}\n{}\n", figures.len(), listed.join(" "));
+        let lent = Lent { scratch, ..Lent::right_for(figures.len()) };
+        let (number, place) = decompose(&figures, start, &lent).map_or_else(|r| (r.number, r.place), |_| (0, 0));
+        lines += &format!("{number} {place}, {number} {place}, alike\n");
+    }
+    for (row, count) in [(0, 4), (1, 2), (2, 1), (3, 2), (4, 2), (5, 1)] {
+        assert_eq!(lines.lines().filter(|line| line.starts_with(&format!("{row} "))).count(), count, "row {row}");
+    }
+    for language in languages() {
+        let mut command = Command::new(built_in("slices", language));
+        let mut running = command.stdin(Stdio::piped()).stdout(Stdio::piped()).spawn().expect("a run");
+        running.stdin.take().expect("its input").write_all(input.as_bytes()).expect("to be read");
+        let output = running.wait_with_output().expect("its end");
+        assert_eq!((output.status.code(), text(&output.stdout)), (Some(0), lines.clone()), "{language:?}");
     }
 }

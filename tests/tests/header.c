@@ -1,5 +1,5 @@
-/* Prints the constants of the header by name, the answers of reading the desk file named on the command line and of writing it again, and
-   then the bytes written. callers.rs builds it as C and as C++. */
+/* Prints the constants of the header by name, the text of every refusal's number, the answers of reading the desk file named on the command
+   line and of writing it again, and then the bytes written. callers.rs builds it as C and as C++. */
 #include <inttypes.h>
 #include <stdio.h>
 #include "vepsjalm.h"
@@ -12,6 +12,10 @@ static uint16_t weights[VEPSJALM_MOST_MONTHS];
 
 static void show_constants(void)
 {
+    printf("VEPSJALM_VERSION %s\n", VEPSJALM_VERSION);
+    SHOW(VEPSJALM_VERSION_MAJOR);
+    SHOW(VEPSJALM_VERSION_MINOR);
+    SHOW(VEPSJALM_VERSION_PATCH);
     SHOW(VEPSJALM_LEAST_MONTHS);
     SHOW(VEPSJALM_MOST_MONTHS);
     SHOW(VEPSJALM_YEAR);
@@ -34,9 +38,16 @@ static void show_constants(void)
     SHOW(VEPSJALM_WEIGHT_ABOVE);
 }
 
+static void show_texts(void)
+{
+    for (int number = 0; number <= UINT8_MAX; number++)
+        printf("%d %s\n", number, vepsjalm_refusal_text((uint8_t)number));
+}
+
 int main(int arguments, char **words)
 {
     show_constants();
+    show_texts();
     FILE *stream = arguments > 1 ? fopen(words[1], "rb") : NULL;
     if (stream == NULL)
         return 100;
