@@ -92,8 +92,7 @@ fn clear(scratch: &mut [i64], n: usize)
     requires { ⌜ (n ≤ mostMonths) × (scratchFor n ≤ length (now scratch)) ⌝ }
     ensures { λ _. ⌜ now (scratch .exit) ≡ zeroed n (now (scratch .entry)) ⌝ }
 {
-    let e = 8 * n;
-    series::zero(&mut scratch[..e]);
+    series::zero_front(scratch, 8 * n);
 }
 
 // The three passes, X standing at the front of the scratch. Row 6 is looked at, and never applies.

@@ -1,7 +1,8 @@
-// Series by month: their differences, and slices that become 0.
+// Series by month: their differences, and slices whose front becomes 0.
 ghost use mathlib.Core.Path.{_≡_};
-ghost use Prim.Native.Nat.{_<_};
-ghost use lib.ListN.{length};
+ghost use mathlib.Core.List.{_++_};
+ghost use Prim.Native.Nat.{_≤_, _<_};
+ghost use lib.ListN.{length, drop};
 ghost use lib.IntN.{pos, _-ℤ_};
 ghost use Rattle.integers.specs.Lists.{_‼_, tab};
 ghost use Rattle.series.specs.Operations.{minus};
@@ -25,11 +26,14 @@ pub fn minus(x: &[i64], y: &[i64], out: &mut [i64])
     }
 }
 
-// Every entry becomes 0.
-pub fn zero(s: &mut [i64])
-    ensures { λ _. ⌜ now (s .exit) ≡ tab (length (now (s .entry))) (λ _. pos 0) ⌝ }
+// The first n entries become 0, the rest stays.
+pub fn zero_front(s: &mut [i64], n: usize)
+    requires { ⌜ n ≤ length (now s) ⌝ }
+    ensures { λ _. ⌜ now (s .exit) ≡ tab n (λ _. pos 0) ++ drop n (now (s .entry)) ⌝ }
 {
-    for i in 0..s.len() {
+    let mut i = 0;
+    while i < n {
         s[i] = 0;
+        i += 1;
     }
 }
