@@ -86,7 +86,7 @@ pub fn small_random(seed: u64, n: usize) -> Vec<i32> {
 
 /// Seeds of `small_random` with 72 months, start month 1 + seed mod 12, for
 /// which some Henderson sum at the ends falls exactly on a half grain; they
-/// were found by trying one seed after the other (`ref hunt`).
+/// were found by trying one seed after the other (`separate hunt`).
 pub const SEEDS_WITH_HALVES_AT_THE_ENDS: [u64; 5] = [10_758, 62_412, 78_233, 116_591, 134_212];
 
 /// The same for the thirteen-term Henderson sums.

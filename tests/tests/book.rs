@@ -121,6 +121,7 @@ fn check_pair(name: &str, exact: &Fractions, ours: &Placed, printed: &Placed, eq
     assert_eq!(out_of_reach(exact, &part, sizes), Vec::<usize>::new(), "{name}");
 }
 
+/// B1 is printed exactly: all 102 months of B2 are met to the last digit.
 #[test]
 fn two_by_twelve_of_the_series() {
     let tables = printed_tables();

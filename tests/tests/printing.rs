@@ -1,4 +1,4 @@
-//! The text of the printing program.
+//! The text of the printing program, separately written; `printer.rs` has the built program beside it.
 
 use separate::decompose::decompose_fitting;
 use separate::desk::bytes_of;

@@ -1,5 +1,5 @@
-//! The refusal sheet: its small examples, the order of the checks and the
-//! edges, for decomposing, reading and writing.
+//! The refusal sheet: its small examples and the edges, for decomposing,
+//! reading and writing.  The order of the checks is in `ladders.rs`.
 
 use separate::decompose::{decompose, decompose_fitting, Lent, Refusal};
 use separate::desk::{bytes_of, read, write, DeskSeries};
@@ -67,23 +67,6 @@ fn row_5_figures() {
     assert_eq!(decompose_fitting(&list, 1).unwrap_err(), refusal(5, 60));
     list[60] = i32::MIN;
     assert_eq!(decompose_fitting(&list, 1).unwrap_err(), refusal(5, 60));
-}
-
-#[test]
-fn decomposing_checks_in_order() {
-    let bad = |n: usize| {
-        let mut list = figures(n);
-        if n > 0 {
-            list[n - 1] = 300_000;
-        }
-        list
-    };
-    let wrong = Lent { d10: 5, ..Lent::right_for(72) };
-    assert_eq!(decompose(&bad(71), 13, &wrong).unwrap_err(), refusal(1, 0));
-    assert_eq!(decompose(&bad(601), 13, &wrong).unwrap_err(), refusal(2, 0));
-    assert_eq!(decompose(&bad(72), 13, &wrong).unwrap_err(), refusal(3, 0));
-    assert_eq!(decompose(&bad(72), 12, &wrong).unwrap_err(), refusal(4, 0));
-    assert_eq!(decompose(&bad(72), 12, &Lent::right_for(72)).unwrap_err(), refusal(5, 71));
 }
 
 fn file(n: usize) -> Vec<u8> {
@@ -159,58 +142,6 @@ fn row_5_and_10_in_a_file() {
     assert_eq!(read(&bytes_of(&list, 1, 12, &weights), 72, 72).unwrap_err(), refusal(5, 71));
     list[0] = 200_001;
     assert_eq!(read(&bytes_of(&list, 1, 12, &weights), 72, 72).unwrap_err(), refusal(5, 0));
-}
-
-#[test]
-fn reading_checks_in_order() {
-    // Everything wrong at once, then put right one by one.
-    let mut list = figures(72);
-    list[3] = 999_999;
-    let mut weights = vec![0u16; 72];
-    weights[2] = 2000;
-    let mut bytes = bytes_of(&list, 13, 4, &weights);
-    bytes.push(9);
-    bytes[0] = 71;
-    assert_eq!(read(&bytes[..3], 0, 0).unwrap_err(), refusal(7, 0));
-    assert_eq!(read(&bytes, 0, 0).unwrap_err(), refusal(1, 0));
-    bytes[1] = 3;
-    assert_eq!(read(&bytes, 0, 0).unwrap_err(), refusal(2, 0));
-    bytes[0] = 72;
-    bytes[1] = 0;
-    assert_eq!(read(&bytes, 0, 0).unwrap_err(), refusal(3, 0));
-    bytes[2] = 12;
-    assert_eq!(read(&bytes, 0, 0).unwrap_err(), refusal(8, 0));
-    bytes[3] = 12;
-    assert_eq!(read(&bytes, 0, 0).unwrap_err(), refusal(9, 0));
-    bytes.pop();
-    assert_eq!(read(&bytes, 0, 72).unwrap_err(), refusal(4, 0));
-    assert_eq!(read(&bytes, 72, 72).unwrap_err(), refusal(5, 3));
-    bytes[4 + 12..4 + 16].copy_from_slice(&[0, 0, 0, 0]);
-    assert_eq!(read(&bytes, 72, 72).unwrap_err(), refusal(10, 2));
-    bytes[4 + 4 * 72 + 4..4 + 4 * 72 + 6].copy_from_slice(&[0, 0]);
-    assert!(read(&bytes, 72, 72).is_ok());
-}
-
-#[test]
-fn writing_checks_in_order() {
-    let mut list = figures(72);
-    list[70] = -999_999;
-    let mut weights = vec![1000u16; 72];
-    weights[1] = 1001;
-    assert_eq!(write(&list[..71], 13, &weights, 0).unwrap_err(), refusal(1, 0));
-    assert_eq!(write(&figures(601), 13, &weights, 0).unwrap_err(), refusal(2, 0));
-    assert_eq!(write(&list, 13, &weights, 0).unwrap_err(), refusal(3, 0));
-    assert_eq!(write(&list, 12, &weights, 435).unwrap_err(), refusal(4, 0));
-    assert_eq!(write(&list, 12, &weights[..71], 436).unwrap_err(), refusal(4, 0));
-    let mut longer = weights.clone();
-    longer.push(0);
-    assert_eq!(write(&list, 12, &longer, 5000).unwrap_err(), refusal(4, 0));
-    assert_eq!(write(&list, 12, &weights, 436).unwrap_err(), refusal(5, 70));
-    list[70] = 0;
-    assert_eq!(write(&list, 12, &weights, 436).unwrap_err(), refusal(10, 1));
-    weights[1] = 0;
-    assert_eq!(write(&list, 12, &weights, 436).unwrap().len(), 436);
-    assert_eq!(write(&list, 12, &weights, 100_000).unwrap().len(), 436);
 }
 
 #[test]

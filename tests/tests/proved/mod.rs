@@ -1,5 +1,7 @@
 //! The proved functions, called through the C interface. Slices pass as pointer and length.
 
+pub mod beside;
+
 extern "C" {
     fn vepsjalm_decompose(
         figures: *const i32, n: usize, start: u8,
@@ -31,7 +33,6 @@ pub struct Slices {
 /// Number (0 for success) and place.
 pub type Answer = (u8, usize);
 
-#[allow(dead_code)]
 pub fn decompose(figures: &[i32], start: u8, lent: &mut Slices) -> Answer {
     let mut place = usize::MAX;
     // Each pointer goes with the length of the vector that it comes from, and no two overlap.
@@ -48,7 +49,6 @@ pub fn decompose(figures: &[i32], start: u8, lent: &mut Slices) -> Answer {
 }
 
 /// Answer, count and start month.
-#[allow(dead_code)]
 pub fn read(file: &[u8], figures: &mut [i32], weights: &mut [u16]) -> (Answer, usize, u8) {
     let (mut count, mut start, mut place) = (usize::MAX, u8::MAX, usize::MAX);
     let number = unsafe {
@@ -61,7 +61,6 @@ pub fn read(file: &[u8], figures: &mut [i32], weights: &mut [u16]) -> (Answer, u
 }
 
 /// Answer and length.
-#[allow(dead_code)]
 pub fn write(figures: &[i32], start: u8, weights: &[u16], out: &mut [u8]) -> (Answer, usize) {
     let (mut size, mut place) = (usize::MAX, usize::MAX);
     let number = unsafe {
