@@ -10,7 +10,7 @@ in-grains-requires : tie.Need-in-grains-requires
 in-grains-requires c κs = search needs
 
 correct-extremes-requires : tie.Need-correct-extremes-requires
-correct-extremes-requires c κs = let g = c .before .before .before .before .before .before .before in let s = g .before .before .before .before in (correctable-b (s .pre .0) (g .in-grains .ensures), s .pre .1, s .pre .3 .b17-long)
+correct-extremes-requires c κs = let g = c .before .before .before .before .before .before .before in let s = g .before .before .before .before in (correctable-b (s .pre .0) (g .in-grains .ensures), s .pre .1, omega (arith, s .pre .3))
 
 enum-told : tie.Need-enum-told
 enum-told c = search needs
@@ -41,7 +41,7 @@ returns c = let r = c .before .before .before .before .before .before .before .b
 
 correct-extremes-requires-2 : tie.Need-correct-extremes-requires-2
 correct-extremes-requires-2 c κs = let r = c .before .before .before .before .before .before .before .before .before .before .before .before .before .before .before in let g = r .before .before .before .before .before .before .before .before in let s = g .before .before .before .before in
-    (correctable-c (s .pre .0) (to-c1 (s .pre .0) (g .in-grains .ensures) (r .correct-extremes .ensures)), record { a-long = omega (arith, s .pre .1, r .correct-extremes); b-long = omega (arith, s .pre .1, r .correct-extremes); t-long = omega (arith, s .pre .1, r .correct-extremes); s-long = omega (arith, s .pre .1, r .correct-extremes) }, s .pre .3 .c17-long)
+    (correctable-c (s .pre .0) (to-c1 (s .pre .0) (g .in-grains .ensures) (r .correct-extremes .ensures)), record { a-long = omega (arith, s .pre .1, r .correct-extremes); b-long = omega (arith, s .pre .1, r .correct-extremes); t-long = omega (arith, s .pre .1, r .correct-extremes); s-long = omega (arith, s .pre .1, r .correct-extremes) }, omega (arith, s .pre .3, r .correct-extremes))
 
 same-length-7 : tie.Need-same-length-7
 same-length-7 c = search needs

@@ -49,10 +49,10 @@ add-weights-start : tie.Need-add-weights-start
 add-weights-start c = omega (arith, facts c .most)
 
 get-figures-requires : tie.Need-get-figures-requires
-get-figures-requires c κs = let f = facts (c .before) in (omega (arith, f .size), f .figuresRoom)
+get-figures-requires c κs = let f = facts (c .before) in (omega (arith, f .size), omega (arith, f .figuresRoom))
 
 get-weights-requires : tie.Need-get-weights-requires
-get-weights-requires c κs = let f = facts (c .before .before .before .before) in (omega (arith, f .size), f .weightsRoom)
+get-weights-requires c κs = let f = facts (c .before .before .before .before) in (omega (arith, f .size), omega (arith, f .weightsRoom))
 
 same-length-3 : tie.Need-same-length-3
 same-length-3 c = search needs
