@@ -1,4 +1,4 @@
--- METHOD 9.2, numbers as text in ASCII: decimal digits, the most significant first, and no more of them than the number needs.
+-- METHOD 9.3, numbers as text in ASCII: decimal digits, the most significant first, and no more of them than the number needs.
 use Prim.Native.Nat.{ℕ, zero, suc, _+_, _/_, _%_}
 use mathlib.Core.Bool.{cond}
 use mathlib.Core.List.{List, [], _∷_, _++_}
@@ -17,7 +17,7 @@ digitsIn (suc k) n = cond (ltb n 10) (digit n ∷ []) (digitsIn k (n / 10) ++ di
 unfoldable pub digits : ℕ → List ℕ
 digits n = digitsIn n n
 
--- METHOD 9.2: a minus sign before negative numbers only
+-- METHOD 9.3: a minus sign before negative numbers only
 abbrev pub minusSign : ℕ
 minusSign = 45
 

@@ -55,6 +55,6 @@ module _ (start period : ℕ) where
   unfoldable pub answerOf : List ℤ → Weighed
   answerOf x = answerBy (sizesOf x)
 
--- METHOD 5.7: the correction of a month: its irregular z times 1,000 less its weight w, over 1,000, rounded to a grain
+-- METHOD 5.7: the correction of a month: its irregular z times (1,000 less its weight w), over 1,000, rounded to a grain
 unfoldable pub correctionOf : ℤ → ℕ → ℤ
 correctionOf z w = toGrain (z *ℤ pos (fullWeight - w)) fullWeight

@@ -29,7 +29,7 @@ refusedWord = 114 ∷ 101 ∷ 102 ∷ 117 ∷ 115 ∷ 101 ∷ 100 ∷ []
 abbrev pub spaced : List ℕ → List ℕ
 spaced word = space ∷ word
 
--- METHOD 9.2: the words of a line, single spaces between them and a line feed at its end
+-- METHOD 9.3: the words of a line, single spaces between them and a line feed at its end
 abbrev pub line : List (List ℕ) → List ℕ
 line [] = lineFeed ∷ []
 line (w ∷ []) = w ++ lineFeed ∷ []

@@ -20,6 +20,6 @@ monthsOfYear = 12
 abbrev pub largestFigure : ℕ
 largestFigure = 200_000
 
--- METHOD 1.5: the weight of a month that counts in full, in thousandths
+-- METHOD 1.5: the weight of a month whose irregular stays whole, in thousandths
 abbrev pub fullWeight : ℕ
 fullWeight = 1000

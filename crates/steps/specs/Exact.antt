@@ -26,7 +26,7 @@ module _ (c : Choices) where
   abbrev pub overS2 : ℕ
   overS2 = overR2 * c .yearly .over
 
--- METHOD 3.4 and 3.7: 2×12 with its first and last value repeated at the ends, over 24 times the denominator of r
+-- METHOD 3.4 and 3.7: 2×12 with its first and last result repeated at the ends, over 24 times the denominator of r
 unfoldable pub exactLevel : Choices → List ℤ → List ℤ
 exactLevel c r = pick (length r) (nearestLevel (c .halfYear) (length r)) (exactInside (c .yearly .table) (c .yearly .over) r)
 

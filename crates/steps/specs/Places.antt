@@ -8,7 +8,7 @@ use lib.IntN.{ℤ}
 use Rattle.series.specs.Operations.{pick}
 
 module _ (h : ℕ) where
-  -- METHOD 3.2: the months from t 6 to n - 7 of a series
+  -- METHOD 3: the months from t 6 to n - 7 of a series
   unfoldable pub inner : List ℤ → List ℤ
   inner x = pick (length x - 2 * h) (λ i. i + h) x
 

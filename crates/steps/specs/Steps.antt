@@ -8,7 +8,7 @@ use Rattle.filters.specs.Filter.{filter, inside}
 use Rattle.steps.specs.Choices.{Choices, replaced}
 use Rattle.steps.specs.Places.{inner, nearestLevel, widened}
 
--- METHOD 3.4 and 3.7: 2×12 of a series, its first and last value repeated at the six places of each end
+-- METHOD 3.4 and 3.7: 2×12 of a series, the first and the last of its results repeated at the six places of each end
 unfoldable pub level : Choices → List ℤ → List ℤ
 level c r = pick (length r) (nearestLevel (c .halfYear) (length r)) (inside (c .yearly .table) r)
 
@@ -47,7 +47,7 @@ module _ (c : Choices) (x : List ℤ) where
   unfoldable pub R2 : List ℤ
   R2 = filter (c .seasonal2 .table) (replaced (c .replacing2) SI2)
 
-  -- METHOD 3.7: M2 is 2×12 of R2, its first and last value repeated at the six months of each end; S2, the seasonal of the pass, is R2 less M2
+  -- METHOD 3.7: M2 is 2×12 of R2, its first and last result repeated at the six months of each end; S2, the seasonal of the pass, is R2 less M2
   unfoldable pub M2 : List ℤ
   M2 = level c R2
 

@@ -20,7 +20,7 @@ module _ (b1 d1 : List ℤ) where
   unfoldable pub E11 : List ℤ
   E11 = minus (times overE b1) E10
 
-  -- METHOD 6.2: E12, the exact trend-cycle, is the exact Henderson of D1 less E10
+  -- METHOD 6.2: E12, the exact trend-cycle, is the exact Henderson of the difference D1 less E10
   unfoldable pub E12 : List ℤ
   E12 = exact (finalTrend .table) (finalTrend .over) (minus (times (overS2 choicesD) d1) (exactS2 choicesD d1))
 

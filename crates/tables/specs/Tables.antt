@@ -84,7 +84,7 @@ module _ (start : ℕ) (figures : List ℤ) where
   unfoldable pub D11 : List ℤ
   D11 = minus B1 D10
 
-  -- METHOD 4.3: D12, the final trend-cycle, is Henderson's filter of D1 less D10; D13, the final irregular, is D11 less D12
+  -- METHOD 4.3: D12, the final trend-cycle, is Henderson's filter of the difference D1 less D10; D13, the final irregular, is D11 less D12
   unfoldable pub D12 : List ℤ
   D12 = filter (finalTrend .table) (minus D1 D10)
 
