@@ -14,7 +14,7 @@ fn one(i: usize) {
     }
     io::write_all(STDOUT_FILENO, &path[..length]);
     io::write_all(STDOUT_FILENO, b"\n");
-    print_tables::run_on(fd, &path[..length]);
+    print_input::run_on(fd, &path[..length]);
     libc::close(fd);
 }
 

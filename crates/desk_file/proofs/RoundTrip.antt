@@ -19,7 +19,7 @@ use Rattle.desk_file.specs.declared.Writing.{Writing}
 use Rattle.desk_file.specs.File.{SeriesWithWeights, series, fileBytes, seriesIn}
 use Rattle.desk_file.specs.ReadFile.{Accepted, accepted, readSays, readAnswer, ReadDone}
 use Rattle.desk_file.specs.WriteFile.{writeSays, writeAnswer, WriteDone}
-use Rattle.desk_file.specs.RoundTrips.{Storable, ReadAgain, WrittenAgain}
+use Rattle.desk_file.specs.RoundTrips.{Storable, OneFile, SameBytes, ReadsBack, WritesBack}
 use Rattle.desk_file.proofs.FileLaws.{file-length, series-months, series-start, series-whole}
 use Rattle.desk_file.proofs.ReadAnswers.{AcceptedFile, accepted-file, accepts-file}
 use Rattle.desk_file.proofs.WriteAnswers.{AcceptedSeries, accepted-series, accepts-series}
@@ -32,17 +32,11 @@ meant file nf nw a b h =
     file-again file b (a .count) (ok .count) (ok .period) (ok .size)
 
 -- a series with weights has one byte string: two accepted byte strings that mean the same are the same
-pub one-file : (file file′ : List ℕ) (figuresRoom weightsRoom figuresRoom′ weightsRoom′ : ℕ) (a a′ : Accepted)
-    → AreBytes file
-    → AreBytes file′
-    → readAnswer file figuresRoom weightsRoom ≡ success a
-    → readAnswer file′ figuresRoom′ weightsRoom′ ≡ success a′
-    → seriesIn file ≡ seriesIn file′
-    → file ≡ file′
+pub one-file : OneFile
 one-file file file′ _ _ _ _ a a′ b b′ h h′ e = sym (meant file _ _ a b h) ∙ ap fileBytes e ∙ meant file′ _ _ a′ b′ h′
 
 -- and a byte string means one series with weights: two that give the same bytes are the same
-pub same-bytes : (s s′ : SeriesWithWeights) → Storable s → Storable s′ → fileBytes s ≡ fileBytes s′ → s ≡ s′
+pub same-bytes : SameBytes
 same-bytes s s′ a a′ e = sym (file-back s a) ∙ ap seriesIn e ∙ file-back s′ a′
 
 fits : (z : ℤ) → natAbs z ≤ largestFigure → FourBytes z
@@ -63,13 +57,7 @@ storable s room k e =
     }
 
 -- what `write` writes, `read` reads again unchanged
-pub read-again : (s : SeriesWithWeights) (out₀ out : List ℕ) (q : Writing) (k : ℕ) (figures₀ figures : List ℤ) (weights₀ weights : List ℕ) (r : Reading)
-    → WriteDone s out₀ q out
-    → writeSays q ≡ success k
-    → length (s .figures) ≤ length figures₀
-    → length (s .figures) ≤ length weights₀
-    → ReadDone (take k out) figures₀ weights₀ r figures weights
-    → ReadAgain s figures₀ weights₀ r figures weights
+pub read-again : ReadsBack
 read-again s out₀ out q k figures₀ figures weights₀ weights r d ha hf hw e =
     let written : writeAnswer s (length out₀) ≡ success k = sym (d .answer) ∙ ha in
     let w = accepted-series s (length out₀) k written in
@@ -100,13 +88,7 @@ read-again s out₀ out q k figures₀ figures weights₀ weights r d ha hf hw e
     }
 
 -- whatever `read` accepts, `write` writes again byte for byte
-pub write-again : (file : List ℕ) (figures₀ figures : List ℤ) (weights₀ weights : List ℕ) (q : Reading) (n start : ℕ) (out₀ out : List ℕ) (r : Writing)
-    → AreBytes file
-    → ReadDone file figures₀ weights₀ q figures weights
-    → readSays q ≡ accepted n start
-    → length file ≤ length out₀
-    → WriteDone (series start (take n figures) (take n weights)) out₀ r out
-    → WrittenAgain file out₀ r out
+pub write-again : WritesBack
 write-again file figures₀ figures weights₀ weights q n start out₀ out r b d ha room e =
     let told : readAnswer file (length figures₀) (length weights₀) ≡ accepted n start = sym (d .answer) ∙ ha in
     let ok = accepted-file file (length figures₀) (length weights₀) n start told in

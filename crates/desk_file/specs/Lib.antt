@@ -1,4 +1,4 @@
--- METHOD 7: the desk file (File), what reading and writing promise (ReadFile, WriteFile), and the words of the theorems on both together
+-- METHOD 7: the desk file (File), what reading and writing promise (ReadFile, WriteFile), and the theorems on both together
 -- (RoundTrips).
 pub mod File
 pub mod ReadFile

@@ -1,21 +1,18 @@
--- METHOD 7.4: the words of the theorems of proofs/RoundTrip.antt:
--- read-again: what `write` wrote, `read` reads again, and it is the same series with weights.
--- write-again: what `read` accepted, `write` writes again, and it is the same byte string.
--- same-bytes: two series with weights that can be stored and have the same bytes are the same.
--- one-file: two byte strings that reading accepts and that mean the same series with weights are the same.
-use Prim.Native.Nat.{ℕ, _^_, _<_}
+-- METHOD 7.4: the theorems on reading and writing together, whole (shown in proofs/RoundTrip.antt). They speak of what `read` and `write` promise,
+-- `ReadDone` and `WriteDone`; every lent slice of bytes is a byte string, `AreBytes` (the contract of little_endian::are_bytes).
+use Prim.Native.Nat.{ℕ, _^_, _≤_, _<_}
 use mathlib.Core.Path.{_≡_}
 use mathlib.Core.List.{List, _++_}
 use lib.IntN.{ℤ}
-use lib.ListN.{length, getD, drop}
+use lib.ListN.{length, getD, take, drop}
 use Rattle.integers.specs.Lists.{_‼_}
 use Rattle.refusals.specs.Sheet.{success}
-use Rattle.little_endian.specs.Bytes.{FourBytes}
+use Rattle.little_endian.specs.Bytes.{AreBytes, FourBytes}
 use Rattle.desk_file.specs.declared.Reading.{Reading}
 use Rattle.desk_file.specs.declared.Writing.{Writing}
-use Rattle.desk_file.specs.File.{SeriesWithWeights}
-use Rattle.desk_file.specs.ReadFile.{accepted, readSays}
-use Rattle.desk_file.specs.WriteFile.{writeSays}
+use Rattle.desk_file.specs.File.{SeriesWithWeights, series, fileBytes, seriesIn}
+use Rattle.desk_file.specs.ReadFile.{Accepted, accepted, readSays, readAnswer, ReadDone}
+use Rattle.desk_file.specs.WriteFile.{writeSays, WriteDone}
 
 -- what the fields of a file can hold: a count of 2 bytes, a start month of 1, signed figures of 4, weights of 2; as many weights as figures
 pub record Storable (s : SeriesWithWeights) : Type 0 where
@@ -35,3 +32,37 @@ pub record ReadAgain (s : SeriesWithWeights) (figures₀ : List ℤ) (weights₀
 pub record WrittenAgain (file out₀ : List ℕ) (r : Writing) (out : List ℕ) : Type 0 where
   pub answer : writeSays r ≡ success (length file)
   pub outLeft : out ≡ file ++ drop (length file) out₀
+
+-- one byte string for each series with weights: two that reading accepts and that mean the same are the same (one-file)
+abbrev pub OneFile : Type 0
+OneFile = (file file′ : List ℕ) (figuresRoom weightsRoom figuresRoom′ weightsRoom′ : ℕ) (a a′ : Accepted)
+    → AreBytes file
+    → AreBytes file′
+    → readAnswer file figuresRoom weightsRoom ≡ success a
+    → readAnswer file′ figuresRoom′ weightsRoom′ ≡ success a′
+    → seriesIn file ≡ seriesIn file′
+    → file ≡ file′
+
+-- and one series with weights for each byte string: two that can be stored and give the same bytes are the same (same-bytes)
+abbrev pub SameBytes : Type 0
+SameBytes = (s s′ : SeriesWithWeights) → Storable s → Storable s′ → fileBytes s ≡ fileBytes s′ → s ≡ s′
+
+-- what `write` wrote, the first k bytes of its output, `read` reads again into slices with room for it, unchanged (read-again)
+abbrev pub ReadsBack : Type 0
+ReadsBack = (s : SeriesWithWeights) (out₀ out : List ℕ) (q : Writing) (k : ℕ) (figures₀ figures : List ℤ) (weights₀ weights : List ℕ) (r : Reading)
+    → WriteDone s out₀ q out
+    → writeSays q ≡ success k
+    → length (s .figures) ≤ length figures₀
+    → length (s .figures) ≤ length weights₀
+    → ReadDone (take k out) figures₀ weights₀ r figures weights
+    → ReadAgain s figures₀ weights₀ r figures weights
+
+-- what `read` accepted, `write` writes again into an output with room for it, byte for byte (write-again)
+abbrev pub WritesBack : Type 0
+WritesBack = (file : List ℕ) (figures₀ figures : List ℤ) (weights₀ weights : List ℕ) (q : Reading) (n start : ℕ) (out₀ out : List ℕ) (r : Writing)
+    → AreBytes file
+    → ReadDone file figures₀ weights₀ q figures weights
+    → readSays q ≡ accepted n start
+    → length file ≤ length out₀
+    → WriteDone (series start (take n figures) (take n weights)) out₀ r out
+    → WrittenAgain file out₀ r out

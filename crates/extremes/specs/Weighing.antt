@@ -48,7 +48,7 @@ module _ (start period : ℕ) where
   unfoldable pub emptied : List ℕ → Bool
   emptied sizes = emptiedBelow (years start period (length sizes)) sizes
 
-  -- the answer to an irregular, for the crate above: decomposing gives row 6 its number (decompose, Promise)
+  -- the answer to an irregular, for the crate above: decomposing gives row 6 its number (checks, Answer)
   unfoldable pub answerBy : List ℕ → Weighed
   answerBy sizes = cond (emptied sizes) EmptyGroup Weights
 

@@ -1,4 +1,2 @@
--- Laws that the proofs share, and what holds of an input that is longer than a desk file.
+-- Laws that the proofs share.
 mod PrintLaws
-mod InputLaws
-pub mod LongFiles

@@ -1,11 +1,11 @@
 -- What is printed, by the promises of decomposing and of reading.
-use Prim.Native.Nat.{ℕ, _≤_}
+use Prim.Native.Nat.{ℕ, _+_, _≤_}
 use mathlib.Core.Path.{_≡_, sym, ap, _∙_}
 use mathlib.Core.List.{List, _++_}
 use native.Mathlib.Omega.{arith}
 use lib.IntN.{ℤ}
 use lib.ListN.{length, take, drop, length-take}
-use lib.Seq.{length-take-le, take-at}
+use lib.Seq.{length-take-le, take-at, sets-eq}
 use Rattle.integers.proofs.Fronts.{front-kept}
 use Rattle.refusals.specs.declared.Refusal.{Refusal}
 use Rattle.refusals.specs.Limits.{mostMonths}
@@ -20,12 +20,20 @@ use Rattle.decompose.specs.declared.Decomposed.{Decomposed}
 use Rattle.decompose.specs.declared.Decomposed.the-variants.{Tables, Refused}
 use Rattle.decompose.specs.Promise.{Slices, Promise, answer, after, says, lengthsOf}
 use Rattle.checks.specs.Answer.{scratchFor}
-use Rattle.print_lines.specs.Text.{refusedLine, tablesText}
-use Rattle.print_tables.specs.Printed.{lentFor, seriesAnswer, tablesOf, decomposedText, seriesText, unreadText, readText, printed}
+use Rattle.decimals.specs.Storing.{Stored}
+use Rattle.print_lines.specs.Text.{refusedLine, tablesText, textRoom}
+use Rattle.print_tables.specs.Printed.{lentFor, seriesAnswer, tablesOf, decomposedText, seriesText, unreadText, readText, printed, PrintDone}
 
 -- the front of an array still has room after it was lent
 pub front-room : {A : Type 0} (k : ℕ) (l : List A) → k ≤ length l → (m : List A) → length m ≡ length (take k l) → k ≤ length (m ++ drop k l)
 front-room k l h m e = omega (arith, front-kept k l h m e)
+
+-- the text of a file that is stored at the front of an array with room for every text
+pub print-done : {file out₀ out : List ℕ} {r : ℕ} → textRoom ≤ length out₀ → Stored textRoom out₀ 0 (printed file) r out → PrintDone file out₀ r out
+print-done {file} {out₀} {r} h s =
+    let e : r ≡ length (printed file) = omega (arith, s .ends) in
+    let l : 0 + length (printed file) ≡ r = omega arith in
+    record { answer = e; outLeft = s .stored ∙ sets-eq (printed file) out₀ 0 (omega (arith, s .short)) ∙ ap (λ (k : ℕ). printed file ++ drop k out₀) l }
 
 -- ---- decomposing
 -- the slices that are lent: the fronts of arrays

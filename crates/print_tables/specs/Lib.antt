@@ -1,3 +1,2 @@
--- The crate's root. Contracts has what reading the input leaves.
+-- The crate's root.
 pub mod Printed
-pub mod Contracts

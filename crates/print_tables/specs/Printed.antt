@@ -1,8 +1,9 @@
 -- METHOD 9: what is printed for a desk file, by what reading and decomposing answer.
 use Prim.Native.Nat.{ℕ}
-use mathlib.Core.List.{List, []}
+use mathlib.Core.Path.{_≡_}
+use mathlib.Core.List.{List, [], _++_}
 use lib.IntN.{ℤ}
-use lib.ListN.{length}
+use lib.ListN.{length, drop}
 use Rattle.refusals.specs.Limits.{mostMonths}
 use Rattle.refusals.specs.Sheet.{Answer, success, refusal}
 use Rattle.desk_file.specs.File.{seriesIn}
@@ -53,3 +54,9 @@ readText (refusal number place) file = refusedLine number place
 -- METHOD 9: the text for a byte string
 unfoldable pub printed : List ℕ → List ℕ
 printed file = readText (readAnswer file mostMonths mostMonths) file
+
+-- the promise of `put_file`, for every byte string: the answer is the length of its text, which stands at the front of the array; the rest of the
+-- array is as it was
+pub record PrintDone (file out₀ : List ℕ) (r : ℕ) (out : List ℕ) : Type 0 where
+  pub answer : r ≡ length (printed file)
+  pub outLeft : out ≡ printed file ++ drop r out₀

@@ -6,15 +6,9 @@ ghost use Rattle.refusals.specs.Limits.{mostMonths};
 ghost use Rattle.decimals.specs.Storing.{Stored};
 ghost use Rattle.desk_file.specs.ReadFile.{readSays};
 ghost use Rattle.print_lines.specs.Text.{textRoom};
-ghost use Rattle.print_tables.specs.Contracts.{Within};
-ghost use Rattle.print_tables.specs.Printed.{printed, seriesText, unreadText};
+ghost use Rattle.print_tables.specs.Printed.{PrintDone, seriesText, unreadText};
 use decompose::Decomposed;
 use desk_file::Reading;
-use libc::STDIN_FILENO;
-use libc::STDOUT_FILENO;
-
-// Bytes of the longest desk file.
-const LONGEST_FILE: usize = 4 + 6 * refusals::MOST_MONTHS;
 
 // The text of a series: its tables, or the line of decomposing's refusal.
 fn put_series(out: &mut [u8], start: u8, figures: &[i32]) -> usize
@@ -69,7 +63,7 @@ fn put_unread(out: &mut [u8], answer: Reading) -> usize
 
 // The text of a desk file: the reader's answer is taken apart first. It stands at the front of `out`, and its length is the answer.
 pub fn put_file(out: &mut [u8; print_lines::TEXT_ROOM], file: &[u8]) -> usize
-    ensures { λ r. ⌜ Stored textRoom (now (out .entry)) 0 (printed (now (file .entry))) r (now (out .exit)) ⌝ }
+    ensures { λ r. ⌜ PrintDone (now (file .entry)) (now (out .entry)) r (now (out .exit)) ⌝ }
 {
     let mut figures = [0i32; refusals::MOST_MONTHS];
     let mut weights = [0u16; refusals::MOST_MONTHS];
@@ -78,59 +72,4 @@ pub fn put_file(out: &mut [u8; print_lines::TEXT_ROOM], file: &[u8]) -> usize
         return put_unread(out, answer);
     };
     put_series(out, start, &figures[..count])
-}
-
-// How many bytes were read, or that a read failed.
-enum Input {
-    Bytes(usize),
-    Failed,
-}
-
-// One read: no bytes at the end of the input.
-fn read_some(fd: i32, part: &mut [u8]) -> Input
-    ensures { λ r. ⌜ Within r (now (part .exit)) ⌝ }
-{
-    let got = libc::read(fd, part);
-    if got < 0 {
-        return Input::Failed;
-    }
-    Input::Bytes(io::count(got, part))
-}
-
-// Reads until the slice is full or the input ends.
-fn read_input(fd: i32, file: &mut [u8]) -> Input
-    ensures { λ r. ⌜ Within r (now (file .exit)) ⌝ }
-{
-    let mut n = 0;
-    while n < file.len() {
-        let Input::Bytes(more) = read_some(fd, &mut file[n..]) else {
-            return Input::Failed;
-        };
-        if more == 0 {
-            break;
-        }
-        n += more;
-    }
-    Input::Bytes(n)
-}
-
-// Prints the text of the desk file in standard input.
-pub fn run() {
-    run_on(STDIN_FILENO, b"standard input");
-}
-
-// The same for any open file, and what it is called where reading fails. One byte more than the longest desk file is read: a longer
-// input prints what its first 3,605 bytes do (proofs/LongFiles.antt, read-enough). A failure is told on standard error, and then no
-// refusal is printed.
-pub fn run_on(fd: i32, name: &[u8]) {
-    let mut file = [0u8; LONGEST_FILE + 1];
-    let mut out = [0u8; print_lines::TEXT_ROOM];
-    let Input::Bytes(n) = read_input(fd, &mut file) else {
-        os::fail(name);
-        return;
-    };
-    let end = put_file(&mut out, &file[..n]);
-    if !io::write_all(STDOUT_FILENO, &out[..end]) {
-        os::fail(b"standard output");
-    }
 }

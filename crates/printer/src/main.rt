@@ -1,4 +1,4 @@
 // Prints the tables of the desk file in standard input.
 fn main() {
-    print_tables::run();
+    print_input::run();
 }

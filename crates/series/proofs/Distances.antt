@@ -11,7 +11,7 @@ use Rattle.integers.proofs.SizeLaws.{absℤ, abs-sub, abs-mul}
 use Rattle.integers.specs.Lists.{_‼_, tabFrom, tab}
 use Rattle.integers.proofs.FillingLaws.{length-tab}
 use Rattle.series.specs.Operations.{minus, times, pick}
-use Rattle.series.specs.Distance.{Close, AllApart}
+use Rattle.series.specs.Distance.{Close, AllAtMostApart}
 use Rattle.series.proofs.Lengths.{length-times, at-times}
 
 -- ---- lists by place: close at each number is close as a list
@@ -71,5 +71,5 @@ pub close-less : {b c d k l : ℕ} {x y e f : List ℤ} (m : ℕ) → Close b k 
 close-less {b} m h g i j = looser (close-minus (looser (close-times m h) (le-refl b) j) g) i refl
 
 -- ---- in grains
-pub grains : {b k : ℕ} {x e : List ℤ} (g : ℕ) → b ≤ 1000 * g → Close b k x e → AllApart g k x e
+pub grains : {b k : ℕ} {x e : List ℤ} (g : ℕ) → b ≤ 1000 * g → Close b k x e → AllAtMostApart g k x e
 grains {b} {k} g l h = record { at = λ t. omega (arith, h .close t, mul-le-mul-right k l) }

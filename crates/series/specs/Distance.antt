@@ -7,12 +7,12 @@ use lib.IntN.{ℤ, pos, natAbs, _-ℤ_, _*ℤ_}
 use Rattle.integers.specs.Lists.{_‼_}
 
 -- the size of d less the fraction e / k is at most g grains
-abbrev pub Apart : ℕ → ℕ → ℤ → ℤ → Type 0
-Apart g k d e = natAbs (pos k *ℤ d -ℤ e) ≤ g * k
+abbrev pub AtMostApart : ℕ → ℕ → ℤ → ℤ → Type 0
+AtMostApart g k d e = natAbs (pos k *ℤ d -ℤ e) ≤ g * k
 
 -- of series: at every place; past the end both are 0
-pub record AllApart (g k : ℕ) (x e : List ℤ) : Type 0 where
-  pub at : (t : ℕ) → Apart g k (x ‼ t) (e ‼ t)
+pub record AllAtMostApart (g k : ℕ) (x e : List ℤ) : Type 0 where
+  pub at : (t : ℕ) → AtMostApart g k (x ‼ t) (e ‼ t)
 
 -- the same in thousandths of a grain, of series that are as long: what the laws carry from step to step
 pub record Close (b k : ℕ) (x e : List ℤ) : Type 0 where

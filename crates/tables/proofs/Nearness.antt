@@ -12,6 +12,7 @@ use Rattle.series.specs.Operations.{minus}
 use Rattle.series.specs.Distance.{Close}
 use Rattle.series.proofs.Distances.{close-self, close-times, close-minus, close-less}
 use Rattle.series.proofs.Lengths.{length-minus, at-minus}
+use Rattle.steps.specs.Choices.{plainMonthly}
 use Rattle.steps.specs.Steps.{S2}
 use Rattle.steps.specs.Exact.{overS2, exactS2}
 use Rattle.steps.proofs.Sound.{plain-sound}
@@ -34,7 +35,7 @@ farD12 = 12_200
 abbrev farD13 : ℕ
 farD13 = farS2 + farD12
 
-pub pass-near : (x : List ℤ) → PassNear x
+pub pass-near : (x : List ℤ) → PassNear plainMonthly x
 pass-near x = near plain-sound x farT2 (omega arith) _ _ (omega arith) (omega arith)
 
 -- seasonal, trend and irregular are the series

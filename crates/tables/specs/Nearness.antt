@@ -4,21 +4,20 @@ use mathlib.Core.List.{List}
 use Prim.Native.Nat.{ℕ}
 use lib.IntN.{ℤ, _+ℤ_}
 use Rattle.integers.specs.Lists.{_‼_}
-use Rattle.series.specs.Distance.{Apart}
-use Rattle.steps.specs.Choices.{plainMonthly}
+use Rattle.series.specs.Distance.{AtMostApart}
+use Rattle.steps.specs.Choices.{Choices}
 use Rattle.steps.specs.Near.{Near}
 use Rattle.tables.specs.Exact.{overE, E10, E11, E12, E13}
 
--- METHOD 6.3, of a pass with the choices that B, C and D make, on the X that it is given: T2 lies within 4 grains of the exact T2, and S2 within
--- 10 of the exact S2
-abbrev pub PassNear : List ℤ → Type 0
-PassNear x = Near plainMonthly 4 10 x
+-- METHOD 6.3, of a pass by its choices, on the X that it is given: T2 lies within 4 grains of the exact T2, and S2 within 10 of the exact S2
+abbrev pub PassNear : Choices → List ℤ → Type 0
+PassNear c x = Near c 4 10 x
 
 -- METHOD 6.4 and 10.3, at month t, of the tables as the caller gets them: D10 from E10 and D11 from E11 at most 10 grains, D12 from E12 at most 14,
 -- D13 from E13 at most 24; and D10, D12 and D13 sum to B1
 pub record NearAt (b1 d1 d10 d11 d12 d13 : List ℤ) (t : ℕ) : Type 0 where
-  pub seasonal : Apart 10 overE (d10 ‼ t) (E10 b1 d1 ‼ t)
-  pub adjusted : Apart 10 overE (d11 ‼ t) (E11 b1 d1 ‼ t)
-  pub trend : Apart 14 overE (d12 ‼ t) (E12 b1 d1 ‼ t)
-  pub irregular : Apart 24 overE (d13 ‼ t) (E13 b1 d1 ‼ t)
+  pub seasonal : AtMostApart 10 overE (d10 ‼ t) (E10 b1 d1 ‼ t)
+  pub adjusted : AtMostApart 10 overE (d11 ‼ t) (E11 b1 d1 ‼ t)
+  pub trend : AtMostApart 14 overE (d12 ‼ t) (E12 b1 d1 ‼ t)
+  pub irregular : AtMostApart 24 overE (d13 ‼ t) (E13 b1 d1 ‼ t)
   pub adds-up : (d10 ‼ t) +ℤ (d12 ‼ t) +ℤ (d13 ‼ t) ≡ b1 ‼ t

@@ -3,7 +3,7 @@
 use mathlib.Core.Path.{refl, sym}
 use native.Mathlib.Omega.{arith}
 use Rattle.decimals.proofs.StoringLaws.{stored-eq}
-use Rattle.print_tables.proofs.PrintLaws.{unread-printed, figures-room, months-fit, months-read, series-printed}
+use Rattle.print_tables.proofs.PrintLaws.{print-done, unread-printed, figures-room, months-fit, months-read, series-printed}
 use borrow.Author.Needs.{needs}
 use Rattle.print_tables.proofs.put_file.Statement.{statement}
 use Rattle.print_tables.proofs.put_file.Tie as tie
@@ -27,7 +27,7 @@ put-unread-requires : tie.Need-put-unread-requires
 put-unread-requires c κs = search needs
 
 returns : tie.Need-returns
-returns c = stored-eq (unread-printed (c .before .before .before .before .before .before .read .ensures) refl refl _ (c .before .before .enum-told .given .1)) (c .put-unread .ensures)
+returns c = print-done (search needs) (stored-eq (unread-printed (c .before .before .before .before .before .before .read .ensures) refl refl _ (c .before .before .enum-told .given .1)) (c .put-unread .ensures))
 
 array-share-prefix-figures : tie.Need-array-share-prefix-figures
 array-share-prefix-figures c = figures-room (c .before .before .before .before .before .before .read .ensures) refl refl _ _ (c .before .before .answer .given .1)
@@ -43,7 +43,7 @@ put-series-requires c κs = (
 )
 
 returns-2 : tie.Need-returns-2
-returns-2 c = stored-eq (series-printed (c .before .before .before .before .before .before .before .before .read .ensures) refl refl _ _ (c .before .before .before .before .answer .given .1)) (c .put-series .ensures)
+returns-2 c = print-done (search needs) (stored-eq (series-printed (c .before .before .before .before .before .before .before .before .read .ensures) refl refl _ _ (c .before .before .before .before .answer .given .1)) (c .put-series .ensures))
 
 pub put-file-spec : {M : Type 1} → statement M
 put-file-spec =

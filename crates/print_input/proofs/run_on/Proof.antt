@@ -1,10 +1,11 @@
--- `print_tables::run_on` meets its contract: what was read and what was stored lies in the arrays.
+-- `print_input::run_on` meets its contract: what was read and what was stored lies in the arrays.
 -- Assumes nothing.
 use borrow.Author.Needs.{needs}
 use Rattle.integers.proofs.Fronts.{front-long}
-use Rattle.print_tables.proofs.InputLaws.{bytes-within}
-use Rattle.print_tables.proofs.run_on.Statement.{statement}
-use Rattle.print_tables.proofs.run_on.Tie as tie
+use Rattle.print_input.proofs.InputLaws.{bytes-within}
+use Rattle.print_input.proofs.LongFiles.{printed-inside}
+use Rattle.print_input.proofs.run_on.Statement.{statement}
+use Rattle.print_input.proofs.run_on.Tie as tie
 
 slice-aggregate-read-input : tie.Need-slice-aggregate-read-input
 slice-aggregate-read-input c = search needs
@@ -24,17 +25,14 @@ fail-requires c κs = search needs
 returns : tie.Need-returns
 returns c = search needs
 
-array-share-prefix-file : tie.Need-array-share-prefix-file
-array-share-prefix-file c = bytes-within _ (c .before .before .n .given .1) (c .before .before .before .before .before .read-input .ensures)
+slice-aggregate-put-input : tie.Need-slice-aggregate-put-input
+slice-aggregate-put-input c = search needs
 
-slice-aggregate-put-file : tie.Need-slice-aggregate-put-file
-slice-aggregate-put-file c = front-long _ _ (array-share-prefix-file (c .before))
-
-put-file-requires : tie.Need-put-file-requires
-put-file-requires c κs = search needs
+put-input-requires : tie.Need-put-input-requires
+put-input-requires c κs = (search needs, bytes-within _ (c .before .before .before .n .given .1) (c .before .before .before .before .before .before .read-input .ensures))
 
 array-share-prefix-out : tie.Need-array-share-prefix-out
-array-share-prefix-out c = search needs
+array-share-prefix-out c = printed-inside (bytes-within _ (c .before .before .before .before .n .given .1) (c .before .before .before .before .before .before .before .read-input .ensures)) (c .put-input .ensures)
 
 slice-aggregate-write-all : tie.Need-slice-aggregate-write-all
 slice-aggregate-write-all c = front-long _ _ (array-share-prefix-out (c .before))
@@ -64,9 +62,8 @@ run-on-spec =
     enum-told
     fail-requires
     returns
-    array-share-prefix-file
-    slice-aggregate-put-file
-    put-file-requires
+    slice-aggregate-put-input
+    put-input-requires
     array-share-prefix-out
     slice-aggregate-write-all
     write-all-requires

@@ -4,9 +4,9 @@ use mathlib.Core.Path.{_≡_, subst}
 use mathlib.Core.List.{List}
 use native.Mathlib.Omega.{arith}
 use lib.ListN.{length, take, drop, length-take, length-drop}
-use Rattle.print_tables.specs.Contracts.{Within}
-use Rattle.print_tables.specs.declared.Input.{Input}
-use Rattle.print_tables.specs.declared.Input.the-variants.{Bytes}
+use Rattle.print_input.specs.Contracts.{Within}
+use Rattle.print_input.specs.declared.Input.{Input}
+use Rattle.print_input.specs.declared.Input.the-variants.{Bytes}
 
 pub bytes-within : {r : Input} {n : ℕ} (part : List ℕ) → r ≡ Bytes n → Within r part → n ≤ length part
 bytes-within part e h = subst (λ (r : Input). Within r part) e h

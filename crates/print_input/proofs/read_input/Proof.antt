@@ -1,13 +1,13 @@
--- `print_tables::read_input` meets its contract: what was read stands in the slice, and what is left of the slice falls at every turn.
+-- `print_input::read_input` meets its contract: what was read stands in the slice, and what is left of the slice falls at every turn.
 -- Assumes nothing.
 use Prim.Native.Nat.{_+_, _-_, _≤_}
 use mathlib.Core.Path.{_≡_, refl, _∙_}
 use lib.ListN.{length}
 use native.Mathlib.Omega.{arith}
 use borrow.Author.Needs.{needs}
-use Rattle.print_tables.proofs.InputLaws.{bytes-within, still-inside}
-use Rattle.print_tables.proofs.read_input.Statement.{statement}
-use Rattle.print_tables.proofs.read_input.Tie as tie
+use Rattle.print_input.proofs.InputLaws.{bytes-within, still-inside}
+use Rattle.print_input.proofs.read_input.Statement.{statement}
+use Rattle.print_input.proofs.read_input.Tie as tie
 
 abbrev Inv-loop : tie.InvT-loop
 Inv-loop fd file₀ n₀ file n = (n ≤ length file) × (length file ≡ length file₀)

@@ -2,19 +2,21 @@
 use Prim.Native.Nat.{ℕ, _+_, _≤_, _<_}
 use mathlib.Core.Path.{_≡_, refl, sym, ap, _∙_}
 use mathlib.Core.Bool.{Bool, true, false, cond, not}
-use mathlib.Core.List.{List}
+use mathlib.Core.List.{List, _++_}
 use native.Mathlib.Omega.{arith}
+use native.Mathlib.Decide.{decLe}
 use borrow.Author.Tests.{le-ltb, ltb-false, ne-eqb}
 use lib.Dec.{ltb, eqb}
-use lib.ListN.{length, take}
-use lib.Seq.{getD-take, length-take-le}
+use lib.ListN.{length, take, drop, length-take, length-append}
+use lib.Seq.{getD-take, length-take-le, take-all}
 use Rattle.refusals.specs.Limits.{leastMonths, mostMonths, monthsOfYear}
 use Rattle.refusals.specs.Inside.{startInside}
 use Rattle.refusals.specs.Sheet.{Answer, refusal}
 use Rattle.little_endian.specs.Bytes.{numberAt}
 use Rattle.desk_file.specs.File.{headerLength, fileLength, countIn, startIn, periodIn}
 use Rattle.desk_file.specs.ReadFile.{Accepted, readAnswer}
-use Rattle.print_tables.specs.Printed.{readText, printed}
+use Rattle.print_tables.specs.Printed.{readText, printed, PrintDone}
+use Rattle.print_input.specs.Contracts.{InputPrinted}
 
 -- a file that is longer than the longest desk file is refused, by its sizes alone
 abbrev refusedBy : Bool → Bool → Bool → Bool → Answer Accepted
@@ -55,3 +57,24 @@ read-enough file h =
     ap (λ (a : Answer Accepted). readText a part) (same ∙ refused-long file h)
     ∙ text-of (ltb (countIn file) leastMonths) (ltb mostMonths (countIn file)) (not (startInside (startIn file))) (not (eqb (periodIn file) monthsOfYear)) part file
     ∙ ap (λ (a : Answer Accepted). readText a file) (sym (refused-long file h))
+
+-- so the bytes that are read decide, however long the input is
+pub input-decides : (file input : List ℕ) (n : ℕ) → length file ≡ fileLength mostMonths + 1 → take (length file) input ≡ take n file → printed (take n file) ≡ printed input
+input-decides file input n l e = ap printed (sym e) ∙ go (decLe (length input) (length file))
+  where
+    go : Dec (length input ≤ length file) → printed (take (length file) input) ≡ printed input
+    go (yes h) = ap printed (take-all (length file) input h)
+    go (no h) = ap (λ (k : ℕ). printed (take k input)) l ∙ read-enough input (omega arith)
+
+pub input-printed : {file out₀ out : List ℕ} {n r : ℕ} → length file ≡ fileLength mostMonths + 1 → PrintDone (take n file) out₀ r out → InputPrinted file n out₀ r out
+input-printed {file} {out₀} {n = n} {r = r} l d = record {
+  each = λ input e. let same = input-decides file input n l e in
+      record { answer = d .answer ∙ ap length same; outLeft = d .outLeft ∙ ap (λ (text : List ℕ). text ++ drop r out₀) same };
+}
+
+-- and it lies in the array
+pub printed-inside : {file out₀ out : List ℕ} {n r : ℕ} → n ≤ length file → InputPrinted file n out₀ r out → r ≤ length out
+printed-inside {file} {out₀} {n = n} {r = r} h p =
+    let part = take n file in
+    let d = p .each part (take-all (length file) part (omega (arith, length-take n file))) in
+    omega (arith, ap length (d .outLeft), length-append (printed part) (drop r out₀), d .answer)
