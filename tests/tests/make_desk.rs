@@ -268,7 +268,7 @@ fn tables_with_a_bad_date() {
         "02021-07,5", "202107,5", "2021-007,5", "2021-,5", "2021--07,5", "2021- 07,5", "2021 -07,5", "2021-07-01,5", "2021/07,5",
         "2021.07,5", "07-2021,5", "07 2021 5", "x2021-07,5", "-2021-07,5", "2021-07x,5", "2021-07:5", "2021-07x5", "2021-075", "2021-07-5",
         "2021-07+5", "2021-7.0,5", "2O21-07,5", "202\u{661}-07,5", "2021\u{a0}7,5", "\u{feff}2021-07,5", "2021-07\r,5", "2021\0-07,5"] {
-        assert_line_refused(line, "no date and figure, as 2021-03,1157");
+        assert_line_refused(line, "no year, month and figure, as 2021-03,1157");
     }
     for month in ["2021-00", "2021-0", "2021-13", "2021-19", "2021-20", "2021-99"] {
         assert_line_refused(&format!("{month},5"), &format!("{month} is no month"));
@@ -298,7 +298,7 @@ fn months_out_of_order() {
 #[test]
 fn headings_that_are_none() {
     let rows = lines(&some_figures(80), 3, PLAIN);
-    let no_date = "no date and figure, as 2021-03,1157";
+    let no_date = "no year, month and figure, as 2021-03,1157";
     for (line, why) in [("2021-03x1157", no_date), ("\"2021-03\",\"1157\"", no_date), ("2021/03,1.5", no_date), ("NA,1157", no_date),
         ("date,2021", no_date), ("index 2015=100", no_date), ("2021-13,5", "2021-13 is no month"),
         ("2021-03,NA", "'NA' is no whole number"), ("2021-03,1.5", "'1.5' is no whole number"),
@@ -336,6 +336,28 @@ fn too_many_figures() {
         assert_refused(&[], &table(&figures, 3, PLAIN), "line 601: more than 600 figures");
         assert_refused(&[], &table(&figures, 3, Form { heading: "date,figure\n\n", ..PLAIN }), "line 603: more than 600 figures");
     }
+}
+
+/// Input that breaks off is tried by reads that fail at once: a directory, a closed input.
+#[test]
+fn input_that_cannot_be_read() {
+    for input in ["10 < examples", "< examples", "10 <&-", "<&-"] {
+        assert_ends(&shell(&format!("examples/make-desk {input}")), 3, "the input could not be read");
+    }
+}
+
+#[test]
+fn dates_beside_a_start() {
+    let figures = some_figures(80);
+    for (dates, separator) in [(1, " "), (3, "\t"), (1, "  ")] {
+        let dated = table(&figures, 11, Form { dates, separator, ..PLAIN });
+        assert_made(&[], &dated, &figures, 11);
+        assert_refused(&["11"], &dated, "line 2: a table with dates, which takes no START");
+    }
+    // Three figures on a line are no dates where two lines are not two months in turn.
+    let threes: Vec<i32> = (0..81).map(|t| [2021, 5, 700][t % 3]).collect();
+    let lines: String = threes.chunks(3).map(|line| format!("{} {} {}\n", line[0], line[1], line[2])).collect();
+    assert_made(&["11"], lines.as_bytes(), &threes, 11);
 }
 
 #[test]
