@@ -46,9 +46,11 @@ hendersonAround c = at (filter tableHenderson (one c 16_796)) (c ∷ (c - 1) ∷
 abbrev hendersonWeights : List ℤ
 hendersonWeights = pos 4032 ∷ pos 3600 ∷ pos 3600 ∷ negsuc 324 ∷ negsuc 324 ∷ []
 
+-- the sizes of the group of the last case
 abbrev exampleGroup : List ℕ
 exampleGroup = 0 ∷ 0 ∷ 0 ∷ 1 ∷ []
 
+-- METHOD 11: the list
 unfoldable pub pencil : List Case
 pencil =
     -- 2×12, 24,000 at one month: there, and six months away on both sides

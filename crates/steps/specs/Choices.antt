@@ -40,6 +40,7 @@ exactReplaced none si = si
 abbrev pub overReplaced : Replacing → ℕ
 overReplaced none = 1
 
+-- the choices of a pass, in the order of its steps
 pub record Choices : Type 0 where
   -- half a year, in months
   pub halfYear : ℕ
