@@ -2,12 +2,12 @@
 use Prim.Native.Nat.{ℕ, _+_, _*_, _-_, _≤_, _<_, min, max}
 use mathlib.Core.Path.{_≡_, refl}
 use mathlib.Core.Logic.{_⊎_, inl, inr, _↔_}
-use native.Mathlib.Nat.{min-le-left, le-div-iff-mul-le, div-lt-iff-lt-mul, div-le-self, mul-le-mul-left}
+use native.Mathlib.Nat.{min-le-left, le-div-iff-mul-le, div-lt-iff-lt-mul, div-le-self, mul-le-mul-left, mod-lt}
 use native.Mathlib.Decide.{decLe}
 use native.Mathlib.Omega.{arith}
 use borrow.Author.Tests.{lt-ltb, le-ltb, lt-leb, le-leb}
 use Rattle.refusals.specs.Limits.{mostMonths}
-use Rattle.extremes.specs.Years.{yearOf, years, yearStart, centre}
+use Rattle.extremes.specs.Years.{yearOf, monthOf, years, yearStart, centre}
 use Rattle.extremes.specs.Contracts.{Calendar, servedFrom}
 
 -- ---- the one place where a period is divided by: a month's year is y or later, if and only if y years are over by then
@@ -60,6 +60,16 @@ module _ {start period n : ℕ} (s : Calendar start period n) where
   pub starts-few : (y : ℕ) → y ≤ years start period n → period * y ≤ 2 * mostMonths
   unfolding years
   starts-few y h = omega (arith, by-years (yearOf start period (n - 1)) (n - 1) (s .early) (s .late) .0 (omega arith), mul-le-mul-left period h, s .least, s .most, s .late)
+
+-- ---- where a series has the months of six years, those of five of them can be weighed: SI1 starts half a year later and ends half a year earlier
+pub part-calendar : {start period n : ℕ} (k : ℕ) → 6 * period ≤ n → n ≤ mostMonths → 1 ≤ start → start ≤ period → Calendar (monthOf start period k) period (n - period)
+unfolding monthOf
+part-calendar {start} {period} k a b h l = record {
+  least = omega arith;
+  most = omega arith;
+  early = omega arith;
+  late = omega (arith, mod-lt (start - 1 + k) {m = period} (omega arith));
+}
 
 -- ---- the months that a group serves: the first group from the first month on, the last group to the end
 module _ {start period n last : ℕ} (s : Calendar start period n) (l : last ≡ years start period n - 3) where

@@ -1,5 +1,5 @@
 -- METHOD 5.1 and 5.2: years and their groups. Months t and years count from 0, the start month from 1. A year has `period` months.
-use Prim.Native.Nat.{ℕ, _+_, _*_, _-_, _/_, min, max}
+use Prim.Native.Nat.{ℕ, _+_, _*_, _-_, _/_, _%_, min, max}
 use mathlib.Core.Path.{_≡_}
 use mathlib.Core.List.{List}
 use lib.ListN.{length}
@@ -20,6 +20,11 @@ module _ (start period : ℕ) where
   -- METHOD 5.1: the calendar year of month t
   unfoldable pub yearOf : ℕ → ℕ
   yearOf t = (start - 1 + t) / period
+
+  -- METHOD 3.8: the calendar month of month t, which is the start month of an irregular that has the months from t on (its years are the same calendar
+  -- years: proofs/GroupMonths.antt, same-years)
+  unfoldable pub monthOf : ℕ → ℕ
+  monthOf t = (start - 1 + t) % period + 1
 
   -- METHOD 5.1: how many years n months touch; one just begun or cut off at its start counts as any other
   unfoldable pub years : ℕ → ℕ
@@ -45,3 +50,13 @@ pub record BegunYears : Type 0 where
   pub second : length (group 10 monthsOfYear (tab 114 (λ t. t)) 1) ≡ 51
   pub last-but-one : length (group 10 monthsOfYear (tab 114 (λ t. t)) 9) ≡ 51
   pub last : length (group 10 monthsOfYear (tab 114 (λ t. t)) 10) ≡ 51
+
+-- METHOD 3.8 and 5.2: SI1 of 72 months has 60; from start month 1 it begins in month 7 and touches six years, from start month 7 it begins in month 1 and
+-- touches five, all of which use one group of all months (shown in proofs/GroupMonths.antt)
+pub record FewestYears : Type 0 where
+  pub july : monthOf 1 monthsOfYear 6 ≡ 7
+  pub six : years 7 monthsOfYear 60 ≡ 6
+  pub january : monthOf 7 monthsOfYear 6 ≡ 1
+  pub five : years 1 monthsOfYear 60 ≡ 5
+  pub first : group 1 monthsOfYear (tab 60 (λ t. t)) 0 ≡ tab 60 (λ t. t)
+  pub last : group 1 monthsOfYear (tab 60 (λ t. t)) 4 ≡ tab 60 (λ t. t)

@@ -2,7 +2,8 @@
 ghost use mathlib.Core.Path.{_≡_};
 ghost use Prim.Native.Nat.{_≤_};
 ghost use Rattle.integers.specs.Sizes.{_within_};
-ghost use Rattle.refusals.specs.Limits.{fullWeight};
+ghost use Rattle.refusals.specs.Limits.{mostMonths, fullWeight};
+ghost use Rattle.extremes.specs.Years.{monthOf};
 ghost use Rattle.extremes.specs.Weighing.{correctionOf};
 ghost use Rattle.extremes.specs.Contracts.{largestIrregular, Weighable, Outcome};
 
@@ -19,6 +20,14 @@ use weighing::weigh_groups;
 pub enum Weighed {
     Weights,
     EmptyGroup,
+}
+
+// METHOD 3.8: the calendar month of month t, where a year has so many months.
+pub fn month_of(start: u8, period: u8, t: usize) -> u8
+    requires { ⌜ (1 ≤ start) × (start ≤ period) × (t ≤ mostMonths) ⌝ }
+    ensures { λ r. ⌜ r ≡ monthOf start period t ⌝ }
+{
+    ((start as usize - 1 + t) % (period as usize) + 1) as u8
 }
 
 // The weights of an irregular whose years have so many months, with two slices to work in.

@@ -1,0 +1,1 @@
+-- What the code asks of its arguments, and what it hands on. Nothing here is promised to a caller of the desk.
