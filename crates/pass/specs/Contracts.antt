@@ -5,7 +5,9 @@ use Prim.Native.Nat.{ℕ, _+_, _*_, _-_, _≤_, _<_}
 use lib.ListN.{length}
 use lib.IntN.{ℤ}
 use Rattle.integers.specs.Lists.{AllWithin}
-use Rattle.filters.specs.Contracts.{largest}
+use Rattle.rows.specs.Table.{Table}
+use Rattle.filters.specs.Filter.{inside}
+use Rattle.filters.specs.Contracts.{largest, Filterable}
 use Rattle.series.specs.Contracts.{Minusable}
 use Rattle.series.specs.Operations.{minus, pick}
 use Rattle.refusals.specs.Limits.{mostMonths}
@@ -38,6 +40,10 @@ pub record Levels (h : ℕ) (r m : List ℤ) : Type 0 where
 abbrev pub lessLevels : ℕ → List ℤ → List ℤ → List ℤ
 lessLevels h r m = minus r (pick (length r) (nearestLevel h (length r)) m)
 
+-- r less its level: its 2×12, by the rows F, with the first and the last value repeated at the ends
+abbrev pub withoutLevel : ℕ → Table → List ℤ → List ℤ
+withoutLevel h F r = lessLevels h r (inside F r)
+
 -- a stretch of places from lo to below hi of n, and the place of another list, of k numbers, that each takes its number from: place i for lo,
 -- and `step` places more for each further one
 unfoldable pub along : ℕ → ℕ → ℕ → ℕ → ℕ
@@ -54,6 +60,22 @@ pub record Lent (h : ℕ) (x p q r out : List ℤ) : Type 0 where
   pub q-long : length q + 2 * h ≡ length x
   pub r-long : length r + 4 * h ≡ length x
   pub out-long : length out ≡ length x
+
+-- SI1 as it is filtered, five years at least, and the slices for its seasonal, that of all months in out
+pub record OfSI1 (h : ℕ) (si r m out : List ℤ) : Type 0 where
+  pub filterable : Filterable si
+  pub long : 10 * h ≤ length si
+  pub r-long : length r ≡ length si
+  pub m-long : length m + 2 * h ≡ length si
+  pub out-long : length si + 2 * h ≡ length out
+  pub out-short : length out ≤ mostMonths
+
+-- SI2 as it is filtered, six years at least, and the slices for its seasonal
+pub record OfSI2 (h : ℕ) (si r out : List ℤ) : Type 0 where
+  pub filterable : Filterable si
+  pub long : 12 * h ≤ length si
+  pub r-long : length r ≡ length si
+  pub out-long : length out ≡ length si
 
 -- a series and a seasonal, and what is left of the series without it; long enough for Henderson's ends
 pub record Adjustable (x s : List ℤ) : Type 0 where

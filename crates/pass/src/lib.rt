@@ -1,4 +1,4 @@
-// METHOD 3: steps 1 to 7 on one series, in lent slices.
+// METHOD 3: steps 1 to 7 on one series, in lent slices: the stages that every pass has, and a pass that replaces no value.
 ghost use mathlib.Core.Path.{_≡_};
 ghost use Prim.Native.Nat.{_+_, _-_, _≤_, _<_};
 ghost use lib.ListN.{length};
@@ -7,12 +7,13 @@ ghost use Rattle.integers.specs.Filling.{Filled};
 ghost use Rattle.integers.specs.Lists.{_‼_};
 ghost use Rattle.refusals.specs.Limits.{mostMonths};
 ghost use Rattle.series.specs.Operations.{minus};
-ghost use Rattle.rows.specs.FilterTables.{tableHenderson};
+ghost use Rattle.rows.specs.FilterTables.{table2x12, table3x3, table3x5, tableHenderson};
 ghost use Rattle.filters.specs.Filter.{filter};
+ghost use Rattle.filters.specs.Contracts.{Filterable};
 ghost use Rattle.steps.specs.Choices.{plainMonthly};
-ghost use Rattle.steps.specs.Steps.{T2, S1, S2};
+ghost use Rattle.steps.specs.Steps.{SI1, S1, T2, S2};
 ghost use Rattle.steps.specs.Places.{widened};
-ghost use Rattle.pass.specs.Contracts.{lessLevels, along, Along, PassSeries, Levels, Lent, Adjustable, Work, PassDone};
+ghost use Rattle.pass.specs.Contracts.{lessLevels, withoutLevel, along, Along, PassSeries, Levels, Lent, OfSI1, OfSI2, Adjustable, Work, PassDone};
 
 // r at place t less level i.
 fn less_at(r: &[i64], m: &[i64], t: usize, i: usize) -> i64
@@ -65,18 +66,52 @@ fn widen(s: &[i64], out: &mut [i64])
     copy_from(s, n - 24, n - 6, n, out);
 }
 
+// r less its level, in out: its 2x12, which m holds, with the ends repeated.
+pub fn without_level(r: &[i64], m: &mut [i64], out: &mut [i64])
+    requires { ⌜ Filterable (now r) × (13 ≤ length (now r)) × (length (now m) + 12 ≡ length (now r)) × (length (now out) ≡ length (now r)) ⌝ }
+    ensures { λ _. ⌜ now (out .exit) ≡ withoutLevel 6 table2x12 (now (r .entry)) ⌝ }
+{
+    filters::two_by_twelve(r, m);
+    less_level(r, m, out);
+}
+
+// Steps 1 and 2: SI1 of x in si, which holds n - 12 numbers as t1 does.
+pub fn first_si(x: &[i64], t1: &mut [i64], si: &mut [i64])
+    requires { ⌜ PassSeries 6 (now x) × (length (now t1) + 12 ≡ length (now x)) × (length (now si) + 12 ≡ length (now x)) ⌝ }
+    ensures { λ _. ⌜ now (si .exit) ≡ SI1 plainMonthly (now (x .entry)) ⌝ }
+{
+    let e = x.len() - 6;
+    filters::two_by_twelve(x, t1);
+    series::minus(&x[6..e], t1, si);
+}
+
+// Steps 3 and 4: the first seasonal of all months in out, from SI1 as it is filtered; si, r and m are then work space.
+pub fn seasonal_of_si1(si: &mut [i64], r: &mut [i64], m: &mut [i64], out: &mut [i64])
+    requires { ⌜ OfSI1 6 (now si) (now r) (now m) (now out) ⌝ }
+    ensures { λ _. ⌜ now (out .exit) ≡ widened 6 (withoutLevel 6 table2x12 (filter table3x3 (now (si .entry)))) ⌝ }
+{
+    filters::three_by_three(si, r);
+    without_level(r, m, si);
+    widen(si, out);
+}
+
+// Steps 6 and 7: the seasonal in out, from SI2 as it is filtered; si and r are then work space.
+pub fn seasonal_of_si2(si: &mut [i64], r: &mut [i64], out: &mut [i64])
+    requires { ⌜ OfSI2 6 (now si) (now r) (now out) ⌝ }
+    ensures { λ _. ⌜ now (out .exit) ≡ withoutLevel 6 table2x12 (filter table3x5 (now (si .entry))) ⌝ }
+{
+    let e = si.len() - 12;
+    filters::three_by_five(si, r);
+    without_level(r, &mut si[..e], out);
+}
+
 // Steps 1 to 4: S1 of x in out. p and q hold n - 12 numbers, r n - 24.
 fn first_seasonal(x: &[i64], p: &mut [i64], q: &mut [i64], r: &mut [i64], out: &mut [i64])
     requires { ⌜ PassSeries 6 (now x) × Lent 6 (now x) (now p) (now q) (now r) (now out) ⌝ }
     ensures { λ _. ⌜ now (out .exit) ≡ S1 plainMonthly (now (x .entry)) ⌝ }
 {
-    let e = x.len() - 6;
-    filters::two_by_twelve(x, p);
-    series::minus(&x[6..e], p, q);
-    filters::three_by_three(q, p);
-    filters::two_by_twelve(p, r);
-    less_level(p, r, q);
-    widen(q, out);
+    first_si(x, p, q);
+    seasonal_of_si1(q, p, r, out);
 }
 
 // Step 5: Henderson of x less a seasonal s, in out. The final trend is worked in the same way.
@@ -93,14 +128,11 @@ fn final_seasonal(x: &[i64], t: &[i64], a: &mut [i64], b: &mut [i64], out: &mut 
     requires { ⌜ PassSeries 6 (now x) × (now t ≡ T2 plainMonthly (now x)) × Work (now x) (now a) (now b) (now out) ⌝ }
     ensures { λ _. ⌜ now (out .exit) ≡ S2 plainMonthly (now (x .entry)) ⌝ }
 {
-    let e = x.len() - 12;
     series::minus(x, t, a);
-    filters::three_by_five(a, b);
-    filters::two_by_twelve(b, &mut a[..e]);
-    less_level(b, &a[..e], out);
+    seasonal_of_si2(a, b, out);
 }
 
-// Steps 1 to 7: T2 and S2 of x; a and b are work space.
+// Steps 1 to 7 as passes C and D take them: T2 and S2 of x; a and b are work space.
 pub fn one_pass(x: &[i64], a: &mut [i64], b: &mut [i64], t: &mut [i64], s: &mut [i64])
     requires { ⌜ PassSeries 6 (now x) × Work (now x) (now a) (now b) (now s) × (length (now t) ≡ length (now x)) ⌝ }
     ensures { λ _. ⌜ PassDone (now (x .entry)) (now (t .exit)) (now (s .exit)) ⌝ }

@@ -11,8 +11,9 @@ use Rattle.filters.specs.Filter.{filter, exact, inside, exactInside}
 use Rattle.series.specs.Distance.{Close}
 use Rattle.series.proofs.Distances.{close-self, close-pick, looser, close-less, grains}
 use Rattle.filters.proofs.Distances.{close-filter, close-inside}
-use Rattle.steps.specs.Choices.{MovingAverage, Replacing, none, replaced, exactReplaced, overReplaced, Choices}
-use Rattle.steps.specs.Steps.{level, T1, SI1, R1, M1, S1, A1, T2, SI2, R2, M2, S2}
+use Rattle.replacing.proofs.ReplacedLaws.{close-replaced-by}
+use Rattle.steps.specs.Choices.{MovingAverage, Replacing, none, byWeights, replaced, exactReplaced, overReplaced, Choices}
+use Rattle.steps.specs.Steps.{level, T1, SI1, R1, M1, innerS1, S1, A1, T2, SI2, R2, M2, S2}
 use Rattle.steps.specs.Places.{inner, nearestLevel, copied, widened}
 use Rattle.steps.specs.Exact.{overR1, overA1, overT2, overR2, overS2, exactLevel, exactT1, exactSI1, exactR1, exactM1, exactS1, exactA1, exactT2, exactSI2, exactR2, exactM2, exactS2}
 use Rattle.steps.specs.Near.{Near}
@@ -43,12 +44,14 @@ close-level : {b k : ℕ} {x e : List ℤ} {c : Choices} → Sound c → Close b
 unfolding level exactLevel
 close-level {e} {c} ok h = rw (h .long) (close-pick (length e) (nearestLevel (c .halfYear) (length e)) (close-means h (c .yearly) (ok .yearly-norm)))
 
--- what replacing adds
+-- what replacing adds: a mean is rounded, half a grain
 abbrev pub added : Replacing → ℕ
 added none = 0
+added (byWeights w) = 500
 
-close-replaced : {b k : ℕ} {x e : List ℤ} (r : Replacing) → Close b k x e → Close (b + added r) (k * overReplaced r) (replaced r x) (exactReplaced r e)
-close-replaced none h = looser h (omega arith) (omega arith)
+close-replaced : {b k : ℕ} {x e : List ℤ} (m : ℕ) (r : Replacing) → Close b k x e → Close (b + added r) (k * overReplaced r) (replaced m r x) (exactReplaced m r e)
+close-replaced m none h = looser h (omega arith) (omega arith)
+close-replaced m (byWeights w) h = close-replaced-by (2 * m) w h
 
 -- ---- the steps. T2 is within d, 6.5 b + 3,750 and 2.6 times what replacing adds; S2 is within 2 b + 2 d + 1,500 and twice what replacing adds: where
 -- nothing is replaced, 15 b + 9,000
@@ -63,14 +66,14 @@ module _ {c : Choices} (ok : Sound c) {b k : ℕ} {x e : List ℤ} (h : Close b 
 
   r1 : Close (2 * b + added (c .replacing1) + 1000) (k * overR1 c) (R1 c x) (exactR1 c e)
   unfolding R1 exactR1
-  r1 = looser (close-mean (close-replaced (c .replacing1) si1) (c .seasonal1) (ok .seasonal1-norm)) (omega arith) (omega arith)
+  r1 = looser (close-mean (close-replaced (c .halfYear) (c .replacing1) si1) (c .seasonal1) (ok .seasonal1-norm)) (omega arith) (omega arith)
 
   m1 : Close (2 * b + added (c .replacing1) + 1500) (k * overA1 c) (M1 c x) (exactM1 c e)
   unfolding M1 exactM1
   m1 = looser (close-level ok r1) (omega arith) (omega arith)
 
   s1 : Close (4 * b + 2 * added (c .replacing1) + 2500) (k * overA1 c) (S1 c x) (exactS1 c e)
-  unfolding S1 exactS1
+  unfolding S1 innerS1 exactS1
   s1 = close-widened (close-less (c .yearly .over) r1 m1 (omega arith) (omega arith)) (c .halfYear)
 
   a1 : Close (5 * b + 2 * added (c .replacing1) + 2500) (k * overA1 c) (A1 c x) (exactA1 c e)
@@ -87,7 +90,7 @@ module _ {c : Choices} (ok : Sound c) {b k : ℕ} {x e : List ℤ} (h : Close b 
 
   r2 : Close (b + d + added (c .replacing2) + 500) (k * overR2 c) (R2 c x) (exactR2 c e)
   unfolding R2 exactR2
-  r2 = looser (close-mean (close-replaced (c .replacing2) si2) (c .seasonal2) (ok .seasonal2-norm)) (omega arith) (omega arith)
+  r2 = looser (close-mean (close-replaced (c .halfYear) (c .replacing2) si2) (c .seasonal2) (ok .seasonal2-norm)) (omega arith) (omega arith)
 
   m2 : Close (b + d + added (c .replacing2) + 1000) (k * overS2 c) (M2 c x) (exactM2 c e)
   unfolding M2 exactM2

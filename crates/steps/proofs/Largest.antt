@@ -9,8 +9,9 @@ use Rattle.integers.specs.Lists.{AllWithin}
 use Rattle.filters.specs.Filter.{filter, inside}
 use Rattle.series.proofs.Largest.{larger, within-pick, within-minus}
 use Rattle.filters.proofs.Largest.{within-filter, within-inside}
-use Rattle.steps.specs.Choices.{MovingAverage, Replacing, none, replaced, Choices}
-use Rattle.steps.specs.Steps.{level, T1, SI1, R1, M1, S1, A1, T2, SI2, R2, M2, S2}
+use Rattle.replacing.proofs.ReplacedLaws.{within-replaced-by}
+use Rattle.steps.specs.Choices.{MovingAverage, Replacing, none, byWeights, replaced, Choices}
+use Rattle.steps.specs.Steps.{level, T1, SI1, R1, M1, innerS1, S1, A1, T2, SI2, R2, M2, S2}
 use Rattle.steps.specs.Places.{inner, nearestLevel, widened}
 use Rattle.steps.proofs.Sound.{Norm, Sound}
 
@@ -35,24 +36,29 @@ module _ {b : ℕ} {x : List ℤ} (h : AllWithin b x) where
   within-level {c} ok = within-pick (length x) (nearestLevel (c .halfYear) (length x)) (within-means (c .yearly) (ok .yearly-norm))
 
 -- replacing does not enlarge
-within-replaced : {b : ℕ} {x : List ℤ} (r : Replacing) → AllWithin b x → AllWithin b (replaced r x)
-within-replaced none h = h
+within-replaced : {b : ℕ} {x : List ℤ} (m : ℕ) (r : Replacing) → AllWithin b x → AllWithin b (replaced m r x)
+within-replaced m none h = h
+within-replaced m (byWeights w) h = within-replaced-by (2 * m) w h
 
 module _ {c : Choices} (ok : Sound c) {b : ℕ} {x : List ℤ} (h : AllWithin b x) where
   pub si1 : AllWithin (2 * b) (SI1 c x)
   unfolding SI1 T1
   si1 = larger (within-minus (within-inner h (c .halfYear)) (within-means h (c .yearly) (ok .yearly-norm))) (omega arith)
 
-  pub replaced1 : AllWithin (2 * b) (replaced (c .replacing1) (SI1 c x))
-  replaced1 = within-replaced (c .replacing1) si1
+  pub replaced1 : AllWithin (2 * b) (replaced (c .halfYear) (c .replacing1) (SI1 c x))
+  replaced1 = within-replaced (c .halfYear) (c .replacing1) si1
 
   pub r1 : AllWithin (2 * b) (R1 c x)
   unfolding R1
   r1 = within-mean replaced1 (c .seasonal1) (ok .seasonal1-norm)
 
+  pub innerS1-within : AllWithin (4 * b) (innerS1 c x)
+  unfolding innerS1 M1
+  innerS1-within = larger (within-minus r1 (within-level r1 ok)) (omega arith)
+
   pub s1 : AllWithin (4 * b) (S1 c x)
-  unfolding S1 M1 widened
-  s1 = within-pick _ _ (larger (within-minus r1 (within-level r1 ok)) (omega arith))
+  unfolding S1 widened
+  s1 = within-pick _ _ innerS1-within
 
   pub a1 : AllWithin (5 * b) (A1 c x)
   unfolding A1
@@ -68,8 +74,8 @@ module _ {c : Choices} (ok : Sound c) {b : ℕ} {x : List ℤ} (h : AllWithin b 
     unfolding SI2
     si2 = within-minus h t2
 
-    pub replaced2 : AllWithin (b + d) (replaced (c .replacing2) (SI2 c x))
-    replaced2 = within-replaced (c .replacing2) si2
+    pub replaced2 : AllWithin (b + d) (replaced (c .halfYear) (c .replacing2) (SI2 c x))
+    replaced2 = within-replaced (c .halfYear) (c .replacing2) si2
 
     pub r2 : AllWithin (b + d) (R2 c x)
     unfolding R2

@@ -5,7 +5,7 @@ use native.Mathlib.Omega.{arith}
 use Rattle.filters.specs.Filter.{reach}
 use Rattle.rows.specs.FilterTables.{table2x12}
 use Rattle.filters.proofs.Light.{Light, light2x12, light3x3, light3x5, lightHenderson}
-use Rattle.steps.specs.Choices.{MovingAverage, Choices, plainMonthly}
+use Rattle.steps.specs.Choices.{MovingAverage, average3x5, Replacing, none, Choices, monthly, plainMonthly}
 
 -- the sizes of the weights of each row sum to at most N thousandths
 abbrev pub Norm : ℕ → MovingAverage → Type 0
@@ -21,9 +21,10 @@ pub record Sound (c : Choices) : Type 0 where
   pub year-least : 1 ≤ c .halfYear
   pub reach-is : reach (c .yearly .table) ≡ c .halfYear
 
-pub plain-sound : Sound plainMonthly
+-- the choices of every pass are sound, whatever is replaced
+pub monthly-sound : (r s : Replacing) → Sound (monthly average3x5 r s)
 unfolding reach table2x12
-plain-sound = record {
+monthly-sound r s = record {
   yearly-norm = light2x12;
   seasonal1-norm = light3x3;
   trend-norm = lightHenderson;
@@ -31,3 +32,6 @@ plain-sound = record {
   year-least = omega arith;
   reach-is = refl;
 }
+
+pub plain-sound : Sound plainMonthly
+plain-sound = monthly-sound none none

@@ -1,8 +1,9 @@
--- What a pass chooses. METHOD 3 settles every choice (`plainMonthly`, below); the steps and their exact working are stated for any, and take
--- the same value, so that the exact working holds what the rounded steps chose.
+-- What a pass chooses. METHOD 3 settles every choice; the steps and their exact working are stated for any, and take the same value, so that the exact
+-- working holds what the rounded steps chose.
 use mathlib.Core.List.{List}
-use Prim.Native.Nat.{ℕ}
+use Prim.Native.Nat.{ℕ, _*_}
 use lib.IntN.{ℤ}
+use Rattle.replacing.specs.Replaced.{common, replacedBy, exactReplacedBy}
 use Rattle.rows.specs.Table.{Table}
 use Rattle.rows.specs.FilterTables.{table2x12, table3x3, table3x5, tableHenderson}
 
@@ -27,18 +28,24 @@ henderson13 = record { table = tableHenderson; over = 4_199_000_000 }
 
 -- what is done to the values of SI1 or SI2 before they are filtered
 pub data Replacing : Type 0 where
-  -- METHOD 3.8: they are not replaced
+  -- METHOD 3.10: they are not replaced
   none : Replacing
+  -- METHOD 3.8 and 3.9: extreme ones are replaced, by these weights
+  byWeights : List ℕ → Replacing
 
-abbrev pub replaced : Replacing → List ℤ → List ℤ
-replaced none si = si
+-- h is half a year, in months
+abbrev pub replaced : ℕ → Replacing → List ℤ → List ℤ
+replaced h none si = si
+replaced h (byWeights w) si = replacedBy (2 * h) w si
 
 -- the same exactly, over `overReplaced` times the denominator of si
-abbrev pub exactReplaced : Replacing → List ℤ → List ℤ
-exactReplaced none si = si
+abbrev pub exactReplaced : ℕ → Replacing → List ℤ → List ℤ
+exactReplaced h none si = si
+exactReplaced h (byWeights w) si = exactReplacedBy (2 * h) w si
 
 abbrev pub overReplaced : Replacing → ℕ
 overReplaced none = 1
+overReplaced (byWeights w) = common
 
 -- the choices of a pass, in the order of its steps
 pub record Choices : Type 0 where
@@ -69,6 +76,6 @@ monthly seasonal2 replacing1 replacing2 =
       replacing2 = replacing2;
     }
 
--- METHOD 3: 3×5 in step 6, and no value of SI1 and SI2 is replaced
+-- METHOD 3.1 to 3.7 as passes C and D take them: 3×5 in step 6, and no value of SI1 and SI2 is replaced (3.10)
 abbrev pub plainMonthly : Choices
 plainMonthly = monthly average3x5 none none

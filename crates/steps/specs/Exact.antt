@@ -1,5 +1,5 @@
 -- METHOD 6.1: a pass without rounding, by the choices c: steps 1 to 7 as whole numbers over a denominator that stands beside each. A filter is
--- left as the weighted sum of its row; what is repeated, copied and subtracted is as in the steps.
+-- left as the weighted sum of its row, a replaced value as its mean, by the weights in c; what is repeated, copied and subtracted is as in the steps.
 use mathlib.Core.List.{List}
 use Prim.Native.Nat.{ℕ, _*_}
 use lib.ListN.{length}
@@ -39,11 +39,11 @@ module _ (c : Choices) (x : List ℤ) where
   unfoldable pub exactSI1 : List ℤ
   exactSI1 = minus (times (c .yearly .over) (inner (c .halfYear) x)) exactT1
 
-  -- R1 (METHOD 3.3), over overR1, 24 * 27
+  -- R1 (METHOD 3.3), over overR1: 24 * 27, and `common` times as much where SI1 is replaced
   unfoldable pub exactR1 : List ℤ
-  exactR1 = exact (c .seasonal1 .table) (c .seasonal1 .over) (exactReplaced (c .replacing1) exactSI1)
+  exactR1 = exact (c .seasonal1 .table) (c .seasonal1 .over) (exactReplaced (c .halfYear) (c .replacing1) exactSI1)
 
-  -- M1, S1 and A1 (METHOD 3.4, 3.5), over overA1, 24 * 27 * 24
+  -- M1, S1 and A1 (METHOD 3.4, 3.5), over overA1, 24 times overR1
   unfoldable pub exactM1 : List ℤ
   exactM1 = exactLevel c exactR1
 
@@ -62,7 +62,7 @@ module _ (c : Choices) (x : List ℤ) where
 
   -- R2 (METHOD 3.6), over overR2
   unfoldable pub exactR2 : List ℤ
-  exactR2 = exact (c .seasonal2 .table) (c .seasonal2 .over) (exactReplaced (c .replacing2) exactSI2)
+  exactR2 = exact (c .seasonal2 .table) (c .seasonal2 .over) (exactReplaced (c .halfYear) (c .replacing2) exactSI2)
 
   -- M2 and S2 (METHOD 3.7), over overS2
   unfoldable pub exactM2 : List ℤ

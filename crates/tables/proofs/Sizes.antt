@@ -13,7 +13,7 @@ use Rattle.series.proofs.Lengths.{length-minus, length-times}
 use Rattle.series.proofs.Largest.{within-minus, within-times}
 use Rattle.steps.specs.Choices.{Choices}
 use Rattle.steps.specs.Steps.{T2, S2}
-use Rattle.steps.proofs.Sound.{Sound, plain-sound}
+use Rattle.steps.proofs.Sound.{Sound, monthly-sound, plain-sound}
 use Rattle.steps.proofs.Largest as pass
 use Rattle.extremes.specs.Weighing.{correctionOf}
 use Rattle.extremes.proofs.WeighingLaws.{correction-within}
@@ -68,7 +68,7 @@ module _ (start : ℕ) {f : List ℤ} (h : AllWithin largestFigure f) where
 
   pub within-c1 : AllWithin largestC1 (C1 start f)
   unfolding C1 B20 B13 B10 B7
-  within-c1 = within-corrected plain-sound within-b1 largestB7 (omega arith) _
+  within-c1 = within-corrected (monthly-sound _ _) within-b1 largestB7 (omega arith) _
 
   pub within-d1 : AllWithin largestD1 (D1 start f)
   unfolding D1 C20 C13 C10 C7

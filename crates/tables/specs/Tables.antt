@@ -10,11 +10,9 @@ use Rattle.filters.specs.Filter.{filter}
 use Rattle.steps.specs.Choices.{MovingAverage, henderson13, Choices, plainMonthly}
 use Rattle.steps.specs.Steps.{T2, S2}
 use Rattle.extremes.specs.Weighing.{weightsOf, correctionOf}
+use Rattle.tables.specs.PassB.{choicesB}
 
--- METHOD 3 and 4.3, what the passes choose: all three work over months, with 3×5 in step 6, and replace no value; D12 takes Henderson's 13 terms
-abbrev pub choicesB : Choices
-choicesB = plainMonthly
-
+-- METHOD 3.10 and 4.3, what passes C and D choose (for pass B see PassB): they replace no value; D12 takes Henderson's 13 terms
 abbrev pub choicesC : Choices
 choicesC = plainMonthly
 
@@ -37,12 +35,13 @@ module _ (start : ℕ) (figures : List ℤ) where
   unfoldable pub B1 : List ℤ
   B1 = times unit figures
 
-  -- METHOD 4.1: B7, the trend-cycle, is T2 of B1; B10, the seasonal, is S2; B13 is the irregular that both leave
+  -- METHOD 4.1: B7, the trend-cycle, is T2 of B1; B10, the seasonal, is S2, extreme values of SI1 and SI2 being replaced; B13 is the irregular that
+  -- both leave
   unfoldable pub B7 : List ℤ
-  B7 = T2 choicesB B1
+  B7 = T2 (choicesB start B1) B1
 
   unfoldable pub B10 : List ℤ
-  B10 = S2 choicesB B1
+  B10 = S2 (choicesB start B1) B1
 
   unfoldable pub B13 : List ℤ
   B13 = irregularOf B1 B10 B7

@@ -1,0 +1,3 @@
+-- Laws of replacing: means of natural weights, and the replaced values.
+pub mod WeightedMeans
+pub mod ReplacedLaws
