@@ -16,9 +16,11 @@ use Rattle.steps.specs.Steps.{S2}
 use Rattle.extremes.specs.Spreads.{sizesOf}
 use Rattle.extremes.specs.Weighing.{emptied}
 use Rattle.extremes.proofs.WeighingLaws.{never-emptied}
+use Rattle.extremes.proofs.YearLaws.{part-calendar}
 use Rattle.tables.specs.Tables.{choicesD, finalTrend, B1, B13, C13, D1, D10, D11, D12, D13}
-use Rattle.tables.proofs.Sizes.{length-b13, length-c13}
-use Rattle.tables.proofs.Nearness.{pass-near, near-at}
+use Rattle.tables.specs.PassB.{startB4, irregularB4, irregularB9}
+use Rattle.tables.proofs.Sizes.{length-b1, length-irregularB4, length-irregularB9, length-b13, length-c13}
+use Rattle.tables.proofs.Nearness.{pass-near, pass-b-near, near-at}
 use Rattle.checks.specs.Answer.{groupEmptied}
 use Rattle.checks.specs.Contracts.{Workable, Accepts, Refuses}
 use Rattle.decompose.specs.Promise.{Slices, lengthsOf, says, answer, after, Promise}
@@ -33,7 +35,7 @@ refused {start} {f} {lent} {q} h = record {
   answered = sym (h .answer-is);
   slices = rw (h .answer-is, h .not-six);
   near = λ e. absurd (no-success e);
-  pass-b = pass-near _;
+  pass-b = pass-b-near _ _;
   pass-c = pass-near _;
   pass-d = pass-near _;
 }
@@ -41,8 +43,16 @@ refused {start} {f} {lent} {q} h = record {
 -- ---- no group is emptied
 not-emptied : {start : ℕ} {f : List ℤ} → Workable start f → groupEmptied start f ≡ false
 unfolding groupEmptied
-not-emptied {start} {f} h = rw (never (B13 start f) (length-b13 start f), never (C13 start f) (length-c13 start f))
+not-emptied {start} {f} h = rw (
+  first,
+  never (irregularB9 start (B1 start f)) (length-irregularB9 start (B1 start f) ∙ length-b1 start f),
+  never (B13 start f) (length-b13 start f),
+  never (C13 start f) (length-c13 start f),
+)
   where
+    first : emptied (startB4 start) monthsOfYear (sizesOf (irregularB4 (B1 start f))) ≡ false
+    first = never-emptied (irregularB4 (B1 start f)) (rw (length-irregularB4 (B1 start f), length-b1 start f) (part-calendar 6 (h .long) (h .figures .short) (h .early) (h .late)))
+
     never : (x : List ℤ) → length x ≡ length f → emptied start monthsOfYear (sizesOf x) ≡ false
     never x l = never-emptied x (record { least = omega (arith, h .long); most = omega (arith, h .figures .short); early = h .early; late = h .late })
 
@@ -91,7 +101,7 @@ tables {start} {f} {lent} {left} {r} h k =
       answered = ap says (k .answered) ∙ sym (answer-is lent h);
       slices = rw (answer-is lent h) (same left _ e10 e11 e12 e13 (k .b17-is) (k .c17-is) (k .scratch-is));
       near = λ e i l. rw (e10, e11, e12, e13) (near-at start f i l);
-      pass-b = pass-near _;
+      pass-b = pass-b-near _ _;
       pass-c = pass-near _;
       pass-d = pass-near _;
     }

@@ -1,5 +1,5 @@
 -- The three passes: what each leaves is the next table of the rules, and is what the next asks.
-use mathlib.Core.Path.{_≡_, _∙_}
+use mathlib.Core.Path.{_≡_, ap, _∙_}
 use mathlib.Core.List.{List}
 use Prim.Native.Nat.{ℕ}
 use native.Mathlib.Omega.{arith}
@@ -13,22 +13,23 @@ use Rattle.series.proofs.Lengths.{length-minus, length-times}
 use Rattle.series.proofs.Largest.{larger, within-minus}
 use Rattle.filters.specs.Filter.{filter}
 use Rattle.filters.proofs.Lengths.{length-filter}
-use Rattle.steps.specs.Choices.{plainMonthly}
+use Rattle.steps.specs.Choices.{Choices}
 use Rattle.steps.specs.Steps.{T2, S2}
-use Rattle.steps.proofs.Sound.{plain-sound}
+use Rattle.steps.proofs.Sound.{Sound, monthly-sound, plain-sound}
 use Rattle.steps.proofs.Largest as pass
-use Rattle.steps.proofs.Lengths.{length-s2}
-use Rattle.pass.specs.Contracts.{PassSeries, Adjustable}
+use Rattle.steps.proofs.Lengths.{length-t2, length-s2}
+use Rattle.pass.specs.Contracts.{PassSeries, Adjustable, PassDone}
+use Rattle.pass_b.specs.Contracts.{PassBSeries, PassBDone}
 use Rattle.extremes.specs.Weighing.{answerOf}
 use Rattle.extremes.specs.declared.Weighed.{Weighed}
 use Rattle.extremes.specs.declared.Weighed.the-variants.{Weights, EmptyGroup}
 use Rattle.extremes.proofs.WeighingLaws.{always-weighed}
 use Rattle.tables.specs.Tables.{choicesD, finalTrend, irregularOf, B1, B7, B10, B13, B17, B20, C1, C7, C10, C13, C17, C20, D1}
-use Rattle.tables.specs.Bounds.{largestD7, largestD10, largestD12}
+use Rattle.tables.specs.Bounds.{largestC1, largestC7, largestD7, largestD10, largestD12}
 use Rattle.tables.proofs.Sizes.{length-irregular, length-c1, length-d1, within-c1, within-d1}
 use Rattle.figures.specs.Contracts.{WithSeasonal}
 use Rattle.checks.specs.Contracts.{Workable}
-use Rattle.decompose.specs.Contracts.{Correctable, lessExtremes, ExtremesCorrected, Corrected, Final, Finished}
+use Rattle.decompose.specs.Contracts.{Correctable, lessExtremes, ExtremesCorrected, CorrectedTo, Final, Finished}
 use Rattle.decompose.proofs.Grains.{within-grains}
 
 -- ---- passes B and C
@@ -37,16 +38,15 @@ pub not-both : {r : Weighed} → r ≡ Weights → r ≡ EmptyGroup → ⊥
 not-both e f = let z : _≡_ {A = ℕ} 0 1 = cc in omega arith
 
 module _ {start : ℕ} {f : List ℤ} (h : Workable start f) where
-  pub correctable-b : {x : List ℤ} → x ≡ times unit f → Correctable start f x
-  correctable-b e = rw e (record { workable = h; x-long = length-times unit f; x-small = larger (within-grains (h .figures)) (omega arith) })
-
-  -- C1 after pass B
-  pub to-c1 : {x o : List ℤ} {r : Weighed} {w : List ℕ} → x ≡ times unit f → ExtremesCorrected start (times unit f) (S2 plainMonthly x) (T2 plainMonthly x) r o w → o ≡ C1 start f
-  unfolding lessExtremes C1 B20 B17 B13 B10 B7 B1
-  to-c1 e k = k .series ∙ rw e
-
-  pub correctable-c : {x : List ℤ} → x ≡ C1 start f → Correctable start f x
-  correctable-c e = rw e (record { workable = h; x-long = length-c1 start f; x-small = within-c1 start (h .figures .small) })
+  -- the seasonal and the trend of a pass on a series that is no larger than C1
+  correctable : {c : Choices} → Sound c → {x s t : List ℤ} → length x ≡ length f → AllWithin largestC1 x → s ≡ S2 c x → t ≡ T2 c x → Correctable start f s t
+  correctable {c} ok {x} l k e i = rw (e, i) (record {
+    workable = h;
+    s-long = length-s2 c x ∙ l;
+    t-long = length-t2 c x ∙ l;
+    s-small = pass.s2 ok k largestC7 (omega arith);
+    t-small = pass.t2 ok k largestC7 (omega arith);
+  })
 
   -- an irregular is always weighed
   weighed : (s t : List ℤ) → answerOf start monthsOfYear (irregularOf (times unit f) s t) ≡ Weights
@@ -56,18 +56,41 @@ module _ {start : ℕ} {f : List ℤ} (h : Workable start f) where
       l : length (irregularOf (times unit f) s t) ≡ length f
       l = length-irregular (times unit f) s t ∙ length-times unit f
 
-  pub never-empty : {s t o : List ℤ} {r : Weighed} {w : List ℕ} → ExtremesCorrected start (times unit f) s t r o w → r ≡ EmptyGroup → ⊥
-  never-empty {s} {t} k e = not-both (k .answered ∙ weighed s t) e
+  -- pass B: x is B1, and C1 comes after it
+  module _ {x : List ℤ} (e : x ≡ times unit f) where
+    pub series-b : PassBSeries start x
+    series-b = rw e (record {
+      long = omega (arith, h .long, length-times unit f);
+      short = omega (arith, h .figures .short, length-times unit f);
+      small = within-grains (h .figures);
+      early = h .early;
+      late = h .late;
+    })
 
-  pub corrected : {x y o : List ℤ} {r q : Weighed} {v w : List ℕ} → x ≡ times unit f → ExtremesCorrected start (times unit f) (S2 plainMonthly x) (T2 plainMonthly x) r y v
-      → ExtremesCorrected start (times unit f) (S2 plainMonthly y) (T2 plainMonthly y) q o w → Corrected start f q o v w
-  unfolding lessExtremes D1 C20 C17 C13 C10 C7 B17 B13 B10 B7 B1
-  corrected {x} {y} e i j = let c = to-c1 e i in record {
-    answered = j .answered ∙ weighed _ _;
-    series = j .series ∙ rw c;
-    b17-is = i .weights ∙ rw e;
-    c17-is = j .weights ∙ rw c;
-  }
+    pub correctable-b : {s t : List ℤ} → PassBDone start x t s → Correctable start f s t
+    correctable-b d = correctable (monthly-sound _ _) (ap length e ∙ length-times unit f) (rw e (larger (within-grains (h .figures)) (omega arith))) (d .seasonal) (d .trend)
+
+    pub to-c1 : {s t o : List ℤ} {r : Weighed} {w : List ℕ} → PassBDone start x t s → ExtremesCorrected start (times unit f) s t r o w → CorrectedTo (C1 start f) (B17 start f) r o w
+    unfolding lessExtremes C1 B20 B17 B13 B10 B7 B1
+    to-c1 {s} {t} d k = record { answered = k .answered ∙ weighed s t; series-is = k .series ∙ rw (d .seasonal, d .trend, e); weights-is = k .weights ∙ rw (d .seasonal, d .trend, e) }
+
+  -- pass C: x is C1, and D1 comes after it
+  module _ {x : List ℤ} (e : x ≡ C1 start f) where
+    length-c : length x ≡ length f
+    length-c = ap length e ∙ length-c1 start f
+
+    small-c : AllWithin largestC1 x
+    small-c = rw e (within-c1 start (h .figures .small))
+
+    pub series-c : PassSeries 6 x
+    series-c = record { long = omega (arith, h .long, length-c); short = omega (arith, h .figures .short, length-c); small = larger small-c (omega arith) }
+
+    pub correctable-c : {s t : List ℤ} → PassDone x t s → Correctable start f s t
+    correctable-c d = correctable plain-sound length-c small-c (d .seasonal) (d .trend)
+
+    pub to-d1 : {s t o : List ℤ} {r : Weighed} {w : List ℕ} → PassDone x t s → ExtremesCorrected start (times unit f) s t r o w → CorrectedTo (D1 start f) (C17 start f) r o w
+    unfolding lessExtremes D1 C20 C17 C13 C10 C7 B1
+    to-d1 {s} {t} d k = record { answered = k .answered ∙ weighed s t; series-is = k .series ∙ rw (d .seasonal, d .trend, e); weights-is = k .weights ∙ rw (d .seasonal, d .trend, e) }
 
   pub final : {x : List ℤ} → x ≡ D1 start f → Final f x
   final e = rw e (record { figures = h .figures; long = h .long; x-long = length-d1 start f; x-small = within-d1 start (h .figures .small) })

@@ -14,18 +14,20 @@ use Rattle.extremes.specs.Weighing.{weightsOf, answerOf}
 use Rattle.extremes.specs.declared.Weighed.{Weighed}
 use Rattle.extremes.specs.declared.Weighed.the-variants.{Weights}
 use Rattle.tables.specs.Tables.{choicesD, finalTrend, irregularOf, corrections, B17, C17, D1}
-use Rattle.tables.specs.Bounds.{largestC1, largestD1}
+use Rattle.tables.specs.Bounds.{largestC7, largestC10, largestD1}
 use Rattle.checks.specs.Answer.{scratchFor}
 use Rattle.checks.specs.Contracts.{Workable}
 use Rattle.decompose.specs.declared.Decomposed.{Decomposed}
 use Rattle.decompose.specs.declared.Decomposed.the-variants.{Tables}
 use Rattle.decompose.specs.Promise.{zeroed}
 
--- the series that a pass is worked on to find extreme months: B1 or C1
-pub record Correctable (start : ℕ) (f x : List ℤ) : Type 0 where
+-- the seasonal and the trend that a pass leaves to find extreme months by: B10 and B7, or C10 and C7
+pub record Correctable (start : ℕ) (f s t : List ℤ) : Type 0 where
   pub workable : Workable start f
-  pub x-long : length x ≡ length f
-  pub x-small : AllWithin largestC1 x
+  pub s-long : length s ≡ length f
+  pub t-long : length t ≡ length f
+  pub s-small : AllWithin largestC10 s
+  pub t-small : AllWithin largestC7 t
 
 -- four slices to work in; those for both sets of weights; the scratch
 pub record WorkSlices (f a b t s : List ℤ) : Type 0 where
@@ -51,7 +53,13 @@ pub record ExtremesCorrected (start : ℕ) (b1 s t : List ℤ) (r : Weighed) (x 
   pub series : x ≡ lessExtremes start b1 (irregularOf b1 s t)
   pub weights : w ≡ weightsOf start monthsOfYear (irregularOf b1 s t)
 
--- what the passes B and C leave: no group is ever emptied
+-- what pass B or C leaves: the next series and its weights, no group being emptied
+pub record CorrectedTo (series : List ℤ) (weights : List ℕ) (r : Weighed) (x : List ℤ) (w : List ℕ) : Type 0 where
+  pub answered : r ≡ Weights
+  pub series-is : x ≡ series
+  pub weights-is : w ≡ weights
+
+-- what both leave
 pub record Corrected (start : ℕ) (f : List ℤ) (r : Weighed) (x : List ℤ) (b17 c17 : List ℕ) : Type 0 where
   pub answered : r ≡ Weights
   pub series : x ≡ D1 start f

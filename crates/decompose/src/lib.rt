@@ -4,11 +4,10 @@ ghost use Prim.Native.Nat.{_≤_};
 ghost use lib.ListN.{length};
 ghost use Rattle.refusals.specs.Limits.{unit, mostMonths};
 ghost use Rattle.series.specs.Operations.{times};
-ghost use Rattle.steps.specs.Choices.{plainMonthly};
-ghost use Rattle.steps.specs.Steps.{T2, S2};
+ghost use Rattle.tables.specs.Tables.{B17, C1, C17, D1};
 ghost use Rattle.checks.specs.Answer.{scratchFor};
 ghost use Rattle.checks.specs.Contracts.{Workable};
-ghost use Rattle.decompose.specs.Contracts.{Correctable, WorkSlices, WeightSlices, Scratch, ExtremesCorrected, Corrected, Final, Finished, PassesDone};
+ghost use Rattle.decompose.specs.Contracts.{Correctable, WorkSlices, WeightSlices, Scratch, ExtremesCorrected, CorrectedTo, Corrected, Final, Finished, PassesDone};
 ghost use Rattle.decompose.specs.Promise.{zeroed, Promise};
 use checks::Lengths;
 use extremes::Weighed;
@@ -20,8 +19,32 @@ pub enum Decomposed {
     Refused(Refusal),
 }
 
-// METHOD 4.1 and 4.2: a pass on x and the weights w of its irregular; x becomes B1 less the corrections. a, b, t and s are work space.
+// METHOD 4.1 and 4.2: the weights w of the irregular that a pass leaves, s being its seasonal and t its trend; x becomes B1 less the corrections.
+// a, b and s are then work space.
 fn correct_extremes(
+    figures: &[i32],
+    start: u8,
+    x: &mut [i64],
+    a: &mut [i64],
+    b: &mut [i64],
+    t: &[i64],
+    s: &mut [i64],
+    w: &mut [u16],
+) -> Weighed
+    requires { ⌜ Correctable start (now figures) (now s) (now t) × (length (now x) ≡ length (now figures)) × (length (now a) ≡ length (now figures))
+        × (length (now b) ≡ length (now figures)) × (length (now w) ≡ length (now figures)) ⌝ }
+    ensures { λ r. ⌜ ExtremesCorrected start (times unit (now (figures .entry)))
+        (now (s .entry)) (now (t .entry)) r (now (x .exit)) (now (w .exit)) ⌝ }
+{
+    figures::adjusted(figures, s, a);
+    series::minus(a, t, b);
+    let weighed = extremes::weights(b, start, refusals::MONTHS_OF_YEAR as u8, a, s, w);
+    figures::corrected(figures, b, w, x);
+    weighed
+}
+
+// METHOD 4.1: pass B on the figures. C1 in x, and the weights B17; a, b, t and s are work space.
+fn to_c1(
     figures: &[i32],
     start: u8,
     x: &mut [i64],
@@ -29,19 +52,34 @@ fn correct_extremes(
     b: &mut [i64],
     t: &mut [i64],
     s: &mut [i64],
-    w: &mut [u16],
+    b17: &mut [u16],
 ) -> Weighed
-    requires { ⌜ Correctable start (now figures) (now x) × WorkSlices (now figures) (now a) (now b) (now t) (now s)
-        × (length (now w) ≡ length (now figures)) ⌝ }
-    ensures { λ r. ⌜ ExtremesCorrected start (times unit (now (figures .entry)))
-        (S2 plainMonthly (now (x .entry))) (T2 plainMonthly (now (x .entry))) r (now (x .exit)) (now (w .exit)) ⌝ }
+    requires { ⌜ Workable start (now figures) × WorkSlices (now figures) (now a) (now b) (now t) (now s)
+        × (length (now x) ≡ length (now figures)) × (length (now b17) ≡ length (now figures)) ⌝ }
+    ensures { λ r. ⌜ CorrectedTo (C1 start (now (figures .entry))) (B17 start (now (figures .entry))) r (now (x .exit)) (now (b17 .exit)) ⌝ }
+{
+    figures::in_grains(figures, x);
+    pass_b::pass_b(x, start, a, b, t, s, b17);
+    correct_extremes(figures, start, x, a, b, t, s, b17)
+}
+
+// METHOD 4.2: pass C on C1, which x holds. D1 in x, and the weights C17; a, b, t and s are work space.
+fn to_d1(
+    figures: &[i32],
+    start: u8,
+    x: &mut [i64],
+    a: &mut [i64],
+    b: &mut [i64],
+    t: &mut [i64],
+    s: &mut [i64],
+    c17: &mut [u16],
+) -> Weighed
+    requires { ⌜ Workable start (now figures) × WorkSlices (now figures) (now a) (now b) (now t) (now s)
+        × (now x ≡ C1 start (now figures)) × (length (now c17) ≡ length (now figures)) ⌝ }
+    ensures { λ r. ⌜ CorrectedTo (D1 start (now (figures .entry))) (C17 start (now (figures .entry))) r (now (x .exit)) (now (c17 .exit)) ⌝ }
 {
     pass::one_pass(x, a, b, t, s);
-    figures::adjusted(figures, s, a);
-    series::minus(a, t, b);
-    let weighed = extremes::weights(b, start, refusals::MONTHS_OF_YEAR as u8, a, s, w);
-    figures::corrected(figures, b, w, x);
-    weighed
+    correct_extremes(figures, start, x, a, b, t, s, c17)
 }
 
 // D1 in x, and the weights B17 and C17; a, b, t and s are work space.
@@ -60,12 +98,11 @@ fn corrected_series(
         × (length (now x) ≡ length (now figures)) × WeightSlices (now figures) (now b17) (now c17) ⌝ }
     ensures { λ r. ⌜ Corrected start (now (figures .entry)) r (now (x .exit)) (now (b17 .exit)) (now (c17 .exit)) ⌝ }
 {
-    figures::in_grains(figures, x);
-    let first = correct_extremes(figures, start, x, a, b, t, s, b17);
+    let first = to_c1(figures, start, x, a, b, t, s, b17);
     let Weighed::Weights = first else {
         return Weighed::EmptyGroup;
     };
-    correct_extremes(figures, start, x, a, b, t, s, c17)
+    to_d1(figures, start, x, a, b, t, s, c17)
 }
 
 // METHOD 4.3: D10 to D13 from the figures and D1, which is x.

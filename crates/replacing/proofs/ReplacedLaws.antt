@@ -17,7 +17,6 @@ use Rattle.integers.proofs.Differences.{rep, ringℤ}
 use Rattle.integers.proofs.FillingLaws.{length-tab, tab-within}
 use Rattle.refusals.specs.Limits.{fullWeight}
 use Rattle.series.specs.Distance.{Close}
-use Rattle.series.specs.Operations.{times}
 use Rattle.series.proofs.Lengths.{at-times}
 use Rattle.series.proofs.Distances.{close-tab, close-times, looser}
 use Rattle.rows.proofs.RowTests.{left, right}

@@ -1,7 +1,7 @@
 -- How long the tables of the three passes are, and how large, where no figure is outside its limits.
 use mathlib.Core.Path.{_≡_, _∙_}
 use mathlib.Core.List.{List}
-use Prim.Native.Nat.{ℕ, _+_, _*_, _≤_}
+use Prim.Native.Nat.{ℕ, _+_, _*_, _-_, _≤_}
 use native.Mathlib.Omega.{arith}
 use lib.ListN.{length, getD}
 use lib.IntN.{ℤ}
@@ -11,12 +11,14 @@ use Rattle.refusals.specs.Limits.{unit, largestFigure}
 use Rattle.series.specs.Operations.{minus}
 use Rattle.series.proofs.Lengths.{length-minus, length-times}
 use Rattle.series.proofs.Largest.{within-minus, within-times}
-use Rattle.steps.specs.Choices.{Choices}
-use Rattle.steps.specs.Steps.{T2, S2}
+use Rattle.steps.specs.Choices.{Choices, plainMonthly}
+use Rattle.steps.specs.Steps.{SI1, innerS1, T2, SI2, S2}
 use Rattle.steps.proofs.Sound.{Sound, monthly-sound, plain-sound}
 use Rattle.steps.proofs.Largest as pass
+use Rattle.steps.proofs.Lengths.{length-si1, length-si2}
 use Rattle.extremes.specs.Weighing.{correctionOf}
 use Rattle.extremes.proofs.WeighingLaws.{correction-within}
+use Rattle.tables.specs.PassB.{irregularB4, choicesB4, irregularB9}
 use Rattle.tables.specs.Tables.{irregularOf, corrections, B1, B7, B10, B13, B20, C1, C7, C10, C13, C20, D1}
 use Rattle.tables.specs.Bounds.{largestB1, largestB7, largestC1, largestC7, largestD1}
 
@@ -34,6 +36,15 @@ unfolding corrections
 within-corrections {b} {z} w h = tab-within b (length z) (λ t. correctionOf (z ‼ t) (getD w t 0)) (λ t. correction-within (z ‼ t) (getD w t 0) (h .at t))
 
 -- ---- how long
+-- what the first seasonals of pass B leave
+pub length-irregularB4 : (x : List ℤ) → length (irregularB4 x) ≡ length x - 12
+unfolding irregularB4
+length-irregularB4 x = length-minus (SI1 plainMonthly x) (innerS1 plainMonthly x) ∙ length-si1 plainMonthly x
+
+pub length-irregularB9 : (start : ℕ) (x : List ℤ) → length (irregularB9 start x) ≡ length x
+unfolding irregularB9
+length-irregularB9 start x = length-minus (SI2 (choicesB4 start x) x) (S2 (choicesB4 start x) x) ∙ length-si2 (choicesB4 start x) x
+
 module _ (start : ℕ) (f : List ℤ) where
   pub length-b1 : length (B1 start f) ≡ length f
   unfolding B1

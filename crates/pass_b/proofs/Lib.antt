@@ -1,0 +1,2 @@
+-- Laws that the code of pass B uses.
+pub mod Turns

@@ -1,0 +1,156 @@
+-- What each call of pass B leaves is the next table of the rules, and is what the next call asks: SI1 is weighed and replaced, then SI2.
+use mathlib.Core.Path.{_≡_, refl, sym, ap, ap₂, _∙_}
+use mathlib.Core.List.{List}
+use Prim.Native.Nat.{ℕ, _+_, _*_, _-_}
+use native.Mathlib.Omega.{arith}
+use lib.ListN.{length}
+use lib.IntN.{ℤ, pos, _-ℤ_}
+use Rattle.integers.proofs.Differences.{rep, ringℤ}
+use Rattle.integers.specs.Lists.{_‼_, AllWithin}
+use Rattle.integers.proofs.FillingLaws.{tab-same}
+use Rattle.refusals.specs.Limits.{monthsOfYear}
+use Rattle.series.specs.Operations.{minus}
+use Rattle.series.specs.Contracts.{Minusable}
+use Rattle.series.proofs.Lengths.{length-minus, length-pick, at-minus}
+use Rattle.series.proofs.Largest.{larger, within-minus, within-pick}
+use Rattle.rows.specs.FilterTables.{table2x12, table3x3, table3x5}
+use Rattle.filters.specs.Filter.{filter}
+use Rattle.filters.specs.Contracts.{Filterable}
+use Rattle.filters.proofs.Lengths.{length-filter}
+use Rattle.replacing.specs.Replaced.{replacedBy}
+use Rattle.steps.specs.Choices.{MovingAverage, average2x12, average3x3, average3x5, Replacing, none, byWeights, monthly, plainMonthly}
+use Rattle.steps.specs.Steps.{level, T1, SI1, R1, M1, innerS1, S1, A1, T2, SI2, S2}
+use Rattle.steps.proofs.Sound.{Norm, Sound, monthly-sound, plain-sound}
+use Rattle.steps.proofs.Largest as sizes
+use Rattle.steps.proofs.Lengths.{length-si1, length-si2}
+use Rattle.extremes.specs.Contracts.{Weighable}
+use Rattle.extremes.specs.Weighing.{weightsOf}
+use Rattle.extremes.proofs.YearLaws.{part-calendar}
+use Rattle.pass.specs.Contracts.{withoutLevel, PassSeries}
+use Rattle.pass.proofs.Stages as stages
+use Rattle.tables.specs.PassB.{irregularB4, startB4, weightsB4, choicesB4, irregularB9, weightsB9, choicesB}
+use Rattle.tables.specs.Bounds.{largestB7}
+use Rattle.pass_b.specs.Contracts.{PassBSeries, largestSI, Weighs}
+
+-- ---- SI1 does not look at what is replaced; T2 and SI2 do not look at what is replaced in SI2
+same-si1 : (f : MovingAverage) (r s : Replacing) (x : List ℤ) → SI1 plainMonthly x ≡ SI1 (monthly f r s) x
+unfolding SI1 T1
+same-si1 f r s x = refl
+
+same-t2 : (f : MovingAverage) (r s u : Replacing) (x : List ℤ) → T2 (monthly f r s) x ≡ T2 (monthly f r u) x
+unfolding T2 A1 S1 innerS1 M1 R1 level SI1 T1
+same-t2 f r s u x = refl
+
+same-si2 : (f : MovingAverage) (r s u : Replacing) (x : List ℤ) → SI2 (monthly f r s) x ≡ SI2 (monthly f r u) x
+unfolding SI2
+same-si2 f r s u x = ap (minus x) (same-t2 f r s u x)
+
+-- a series less what a table leaves of it is that table
+pub taken-twice : (x t : List ℤ) → length t ≡ length x → minus x (minus x t) ≡ t
+unfolding minus
+taken-twice x t h = sym (tab-same (pos 0) (length x) (λ i. (x ‼ i) -ℤ (minus x t ‼ i)) t h (λ i l. sym (rw (at-minus x t i l) (back (x ‼ i) (t ‼ i)))))
+  where
+    back : (a b : ℤ) → a -ℤ (a -ℤ b) ≡ b
+    back a b = rw (rep a, rep b) (simp ringℤ (omega arith))
+
+-- ---- weighing: r is the 3×3 or 3×5 of si
+module _ {start : ℕ} {si r t s : List ℤ} {w : List ℕ} (h : Weighs start si r t s w) where
+  pub r-filterable : Filterable r
+  r-filterable = record { short = omega (arith, h .r-long, h .calendar .most); small = larger (h .r-small) (omega arith) }
+
+  level-small : AllWithin (2 * largestSI) (withoutLevel 6 table2x12 r)
+  level-small = larger (within-minus (h .r-small) (within-pick _ _ (sizes.within-means (h .r-small) average2x12 (plain-sound .yearly-norm)))) (omega arith)
+
+  pub si-minusable : {l : List ℤ} → l ≡ withoutLevel 6 table2x12 r → Minusable si l
+  si-minusable e = rw e (record {
+    short = h .calendar .most;
+    long = length-minus r _ ∙ h .r-long;
+    left = larger (h .si-small) (omega arith);
+    right = larger level-small (omega arith);
+  })
+
+  pub weighable : {l z a b : List ℤ} {v : List ℕ} → l ≡ withoutLevel 6 table2x12 r → z ≡ minus si l → length a ≡ length si → length b ≡ length si → length v ≡ length si → Weighable start monthsOfYear z a b v
+  weighable {l} {z} e f i j k = let n : length z ≡ length si = ap length f ∙ length-minus si l in record {
+    calendar = rw n (h .calendar);
+    small = rw (f, e) (larger (within-minus (h .si-small) level-small) (omega arith));
+    sizes = i ∙ sym n;
+    sums = j ∙ sym n;
+    weights = k ∙ sym n;
+  }
+
+-- ---- pass B on x
+module _ {start : ℕ} {x : List ℤ} (h : PassBSeries start x) where
+  pub series : PassSeries 6 x
+  series = record { long = h .long; short = h .short; small = larger (h .small) (omega arith) }
+
+  pub sound4 : Sound (choicesB4 start x)
+  sound4 = monthly-sound _ _
+
+  pub sound : Sound (choicesB start x)
+  sound = monthly-sound _ _
+
+  -- steps 1 and 2: b holds SI1 and a its 3×3
+  module _ {b : List ℤ} (e : b ≡ SI1 plainMonthly x) where
+    pub si1-filterable : Filterable b
+    si1-filterable = stages.si1-filterable plain-sound series e
+
+    pub si1-long : length b ≡ length x - 12
+    si1-long = ap length e ∙ length-si1 plainMonthly x
+
+    si1-small : AllWithin largestSI b
+    si1-small = rw e (larger (sizes.si1 plain-sound (h .small)) (omega arith))
+
+    pub weighs1 : {a t s : List ℤ} {w : List ℕ} → a ≡ filter table3x3 b → length t ≡ length x - 12 → length s ≡ length x - 12 → length w ≡ length x - 12 → Weighs (startB4 start) b a t s w
+    weighs1 f i j k = record {
+      calendar = rw si1-long (part-calendar 6 (h .long) (h .short) (h .early) (h .late));
+      si-small = si1-small;
+      r-small = rw f (sizes.within-norm si1-small average3x3 1000 largestSI (plain-sound .seasonal1-norm) (omega arith));
+      r-long = ap length f ∙ length-filter table3x3 b;
+      t-long = i ∙ sym si1-long;
+      s-long = j ∙ sym si1-long;
+      w-long = k ∙ sym si1-long;
+    }
+
+    pub weights1 : {a : List ℤ} {w : List ℕ} → a ≡ filter table3x3 b → w ≡ weightsOf (startB4 start) monthsOfYear (minus b (withoutLevel 6 table2x12 a)) → w ≡ weightsB4 start x
+    unfolding weightsB4 irregularB4
+    weights1 f i = i ∙ ap (weightsOf (startB4 start) monthsOfYear) (ap₂ minus e (stages.to-innerS1 plain-sound series e (ap (withoutLevel 6 table2x12) f)))
+
+  -- SI1 as it is replaced
+  pub to-replaced1 : {a : List ℤ} → a ≡ replacedBy monthsOfYear (weightsB4 start x) (SI1 plainMonthly x) → a ≡ replacedBy monthsOfYear (weightsB4 start x) (SI1 (choicesB4 start x) x)
+  to-replaced1 e = e ∙ ap (replacedBy monthsOfYear (weightsB4 start x)) (same-si1 _ _ _ x)
+
+  -- step 6: a holds SI2 and b its 3×5
+  module _ {a : List ℤ} (e : a ≡ SI2 (choicesB4 start x) x) where
+    pub si2-filterable : Filterable a
+    si2-filterable = stages.si2-filterable sound4 series e
+
+    pub si2-long : length a ≡ length x
+    si2-long = ap length e ∙ length-si2 (choicesB4 start x) x
+
+    si2-small : AllWithin largestSI a
+    si2-small = rw e (sizes.si2 sound4 (h .small) largestB7 (omega arith))
+
+    pub si2-minusable : Minusable x a
+    si2-minusable = record { short = h .short; long = si2-long; left = larger (h .small) (omega arith); right = larger si2-small (omega arith) }
+
+    pub weighs2 : {b t s : List ℤ} {w : List ℕ} → b ≡ filter table3x5 a → length t ≡ length x → length s ≡ length x → length w ≡ length x → Weighs start a b t s w
+    weighs2 f i j k = record {
+      calendar = record { least = omega (arith, si2-long, h .long); most = omega (arith, si2-long, h .short); early = h .early; late = h .late };
+      si-small = si2-small;
+      r-small = rw f (sizes.within-norm si2-small average3x5 1000 largestSI (plain-sound .seasonal2-norm) (omega arith));
+      r-long = ap length f ∙ length-filter table3x5 a;
+      t-long = i ∙ sym si2-long;
+      s-long = j ∙ sym si2-long;
+      w-long = k ∙ sym si2-long;
+    }
+
+    pub weights2 : {b : List ℤ} {w : List ℕ} → b ≡ filter table3x5 a → w ≡ weightsOf start monthsOfYear (minus a (withoutLevel 6 table2x12 b)) → w ≡ weightsB9 start x
+    unfolding weightsB9 irregularB9
+    weights2 f i = i ∙ ap (weightsOf start monthsOfYear) (ap₂ minus e (stages.to-s2 sound4 series e (ap (withoutLevel 6 table2x12) f)))
+
+  -- T2 is that of both turns, and SI2 as it is replaced
+  pub to-t2 : {t : List ℤ} → t ≡ T2 (choicesB4 start x) x → t ≡ T2 (choicesB start x) x
+  to-t2 e = e ∙ same-t2 _ _ _ _ x
+
+  pub to-replaced2 : {b : List ℤ} → b ≡ replacedBy monthsOfYear (weightsB9 start x) (SI2 (choicesB4 start x) x) → b ≡ replacedBy monthsOfYear (weightsB9 start x) (SI2 (choicesB start x) x)
+  to-replaced2 e = e ∙ ap (replacedBy monthsOfYear (weightsB9 start x)) (same-si2 _ _ _ _ x)
