@@ -1,9 +1,11 @@
 -- The neighbours by cases, the sum of their values, and the value that stays or becomes a mean.
-use mathlib.Core.Path.{_≡_, ap, ap₂, _∙_}
+use mathlib.Core.Path.{_≡_, refl, ap, ap₂, _∙_}
+use mathlib.Core.Bool.{Bool, true, false, _&&_}
 use mathlib.Core.List.{List, [], _∷_}
 use Prim.Native.Nat.{ℕ, suc, _+_, _*_, _≤_, _<_, min}
 use native.Mathlib.Decide.{decLe}
 use native.Mathlib.Omega.{arith}
+use lib.Dec.{ltb}
 use lib.ListN.{length, getD}
 use lib.IntN.{ℤ, pos, _+ℤ_, _*ℤ_}
 use mir.Syntax.{w64}
@@ -98,17 +100,15 @@ module _ (period : ℕ) (w : List ℕ) (x : List ℤ) (t : ℕ) where
   unfolding replacedAt isReplaced
   full-stays h = simp (le-ltb (getD w t 0) fullWeight h)
 
-  module _ {s : ℤ} {count : ℕ} (h : getD w t 0 < fullWeight) (g : Summed x (neighbours period w t) s count) where
+  module _ {s : ℤ} {count : ℕ} (g : Summed x (neighbours period w t) s count) where
     pub alone-stays : count ≡ 0 → x ‼ t ≡ replacedAt period w x t
     unfolding replacedAt isReplaced
     alone-stays k = let n : length (neighbours period w t) ≤ 0 = omega (arith, g .count-is) in
-        simp (lt-ltb (getD w t 0) fullWeight h, le-ltb 0 (length (neighbours period w t)) n)
-
-    mean-is : 0 < count → toGrain (pos (getD w t 0) *ℤ (x ‼ t) +ℤ pos fullWeight *ℤ s) (getD w t 0 + fullWeight * count) ≡ replacedAt period w x t
-    unfolding replacedAt isReplaced countedSum counted
-    mean-is k = let n : 0 < length (neighbours period w t) = omega (arith, g .count-is) in
-        simp (lt-ltb (getD w t 0) fullWeight h, lt-ltb 0 (length (neighbours period w t)) n)
-        (ap₂ toGrain (ap (λ (z : ℤ). pos (getD w t 0) *ℤ (x ‼ t) +ℤ pos fullWeight *ℤ z) (g .sum-is)) (ap (λ (c : ℕ). getD w t 0 + fullWeight * c) (g .count-is)))
+        simp (le-ltb 0 (length (neighbours period w t)) n, and-false (ltb (getD w t 0) fullWeight))
+      where
+        and-false : (a : Bool) → a && false ≡ false
+        and-false true = refl
+        and-false false = refl
 
     pub count-most : count ≤ 4
     count-most = omega (arith, g .count-is, neighbours-most period w t)
@@ -116,6 +116,13 @@ module _ (period : ℕ) (w : List ℕ) (x : List ℤ) (t : ℕ) where
     pub summed-read : AllWithin largest x → Reads (held s) s (4 * largest)
     summed-read y = i-in (rw (g .sum-is) (w≤ (sum-within y (neighbours period w t)) (omega (arith, neighbours-most period w t)))) tt
 
+    mean-is : getD w t 0 < fullWeight → 0 < count → toGrain (pos (getD w t 0) *ℤ (x ‼ t) +ℤ pos fullWeight *ℤ s) (getD w t 0 + fullWeight * count) ≡ replacedAt period w x t
+    unfolding replacedAt isReplaced countedSum counted
+    mean-is h k = let n : 0 < length (neighbours period w t) = omega (arith, g .count-is) in
+        simp (lt-ltb (getD w t 0) fullWeight h, lt-ltb 0 (length (neighbours period w t)) n)
+        (ap₂ toGrain (ap (λ (z : ℤ). pos (getD w t 0) *ℤ (x ‼ t) +ℤ pos fullWeight *ℤ z) (g .sum-is)) (ap (λ (c : ℕ). getD w t 0 + fullWeight * c) (g .count-is)))
+
     -- as the code hands both on
-    pub mean-held : AllWithin largest x → 0 < count → toGrain (pos (getD w t 0) *ℤ held (x ‼ t) +ℤ pos fullWeight *ℤ held s) (getD w t 0 + fullWeight * count) ≡ replacedAt period w x t
-    mean-held y k = ap₂ (λ (v z : ℤ). toGrain (pos (getD w t 0) *ℤ v +ℤ pos fullWeight *ℤ z) (getD w t 0 + fullWeight * count)) (i-in (y .at t) tt .eq) (summed-read y .eq) ∙ mean-is k
+    pub mean-held : AllWithin largest x → getD w t 0 < fullWeight → 0 < count
+        → toGrain (pos (getD w t 0) *ℤ held (x ‼ t) +ℤ pos fullWeight *ℤ held s) (getD w t 0 + fullWeight * count) ≡ replacedAt period w x t
+    mean-held y h k = ap₂ (λ (v z : ℤ). toGrain (pos (getD w t 0) *ℤ v +ℤ pos fullWeight *ℤ z) (getD w t 0 + fullWeight * count)) (i-in (y .at t) tt .eq) (summed-read y .eq) ∙ mean-is h k

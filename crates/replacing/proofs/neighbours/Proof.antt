@@ -26,7 +26,7 @@ nearest-three-requires c κs = search needs
 
 returns : tie.Need-returns
 returns c = let e = c .before .before in
-    summed-as (c .nearest-three .ensures) (three-by-earlier (omega arith) (e .before .before .back .ensures) (e .back2 .ensures) (c .before .if1 .taken))
+    summed-as (c .nearest-three .ensures) (three-by-earlier (omega arith) (e .before .before .back .ensures) (e .back2 .ensures) (omega (arith, c .before .if1 .taken)))
 
 ahead-requires-2 : tie.Need-ahead-requires-2
 ahead-requires-2 c κs = search needs
@@ -40,7 +40,7 @@ returns-2 c = let f = c .before .before in
 
 -- the nearer one on each side is a place
 earlier-inside : (i : tie.Else2) → let e = i .before .before .before in e .before .before .back .result < length (e .before .before .before .before .args .w .now)
-earlier-inside i = let j = i .before .before in first-inside (omega arith) (j .before .before .before .back .ensures .next) (j .before .back2 .ensures .next) (j .if1 .left)
+earlier-inside i = let j = i .before .before in first-inside (omega arith) (j .before .before .before .back .ensures .next) (j .before .back2 .ensures .next) (omega (arith, j .if1 .left))
 
 later-inside : (i : tie.Else2) → let e = i .before .before .before in e .before .ahead .result < length (e .before .before .before .before .args .w .now)
 later-inside i = let f = i .before in first-inside (omega arith) (f .before .before .before .ahead .ensures .next) (f .ahead2 .ensures .next) (i .if2 .left)
