@@ -28,6 +28,13 @@ pub fn labels(start: u8, n: usize) -> Vec<Label> {
     list
 }
 
+/// The labels of the months first to last as a series of their own: the
+/// first calendar year that they touch is year 0.
+pub fn labels_of_part(labels: &[Label], first: usize, last: usize) -> Vec<Label> {
+    let part = &labels[first..=last];
+    part.iter().map(|label| Label { year: label.year - part[0].year, month: label.month }).collect()
+}
+
 /// The places of one month, oldest first, among the places first to last.
 pub fn run(labels: &[Label], month: u8, first: usize, last: usize) -> Vec<usize> {
     let mut places = Vec::new();
@@ -124,6 +131,30 @@ mod tests {
         assert_eq!(group(&labels, 2).len(), 49);
         assert_eq!(group(&labels, 3).len(), 60);
         assert_eq!(group(&labels, 4).len(), 59);
+    }
+
+    #[test]
+    fn a_part_counts_its_own_years() {
+        // From July the seventh month is a January: the series touches
+        // seven calendar years, its part without the outer months five full ones.
+        let july = labels(7, 72);
+        assert_eq!(by_year(&july).len(), 7);
+        let part = labels_of_part(&july, 6, 65);
+        assert_eq!(part, labels(1, 60));
+        for year in 0..5 {
+            assert_eq!(year_of_the_group(&part, year), 2);
+            assert_eq!(group(&part, 2), (0..60).collect::<Vec<usize>>());
+        }
+        for start in 1..=12 {
+            for n in 72..=84 {
+                let whole = labels(start, n);
+                let part = labels_of_part(&whole, 6, n - 7);
+                assert_eq!(part, labels(whole[6].month, n - 12));
+                assert!(by_year(&part).len() >= 5);
+                // From July on the series' own year 0 is left behind.
+                assert_eq!(whole[6].year, usize::from(start >= 7));
+            }
+        }
     }
 
     #[test]

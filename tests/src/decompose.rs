@@ -1,7 +1,8 @@
 //! Decomposing a series: the checks, the three passes and the tables.
 
 use crate::calendar::labels;
-use crate::pass::{henderson, pass, Steps};
+use crate::extremes::Extremes;
+use crate::pass::{henderson, pass, pass_b, PassB, Steps};
 use crate::spread::{correction, weights};
 use std::fmt;
 
@@ -89,6 +90,9 @@ impl Lent {
 pub struct Tables {
     pub b1: Vec<i64>,
     pub b: Steps,
+    /// The extreme values of SI1 and of SI2 in pass B.
+    pub b4: Extremes,
+    pub b9: Extremes,
     pub b7: Vec<i64>,
     pub b10: Vec<i64>,
     pub b13: Vec<i64>,
@@ -135,7 +139,7 @@ fn work(figures: &[i32], start: u8) -> Result<Tables, Refusal> {
     let labels = labels(start, figures.len());
     let b1: Vec<i64> = figures.iter().map(|&figure| i64::from(figure) * 1000).collect();
 
-    let b = pass(&b1);
+    let PassB { steps: b, b4, b9 } = pass_b(&b1, &labels)?;
     let b7 = b.t2.values.clone();
     let b10 = b.s2.values.clone();
     let b13 = less(&less(&b1, &b10), &b7);
@@ -162,6 +166,8 @@ fn work(figures: &[i32], start: u8) -> Result<Tables, Refusal> {
     Ok(Tables {
         b1,
         b,
+        b4,
+        b9,
         b7,
         b10,
         b13,

@@ -87,11 +87,11 @@ pub fn small_random(seed: u64, n: usize) -> Vec<i32> {
 /// Seeds of `small_random` with 72 months, start month 1 + seed mod 12, for
 /// which some Henderson sum at the ends falls exactly on a half grain; they
 /// were found by trying one seed after the other (`separate hunt`).
-pub const SEEDS_WITH_HALVES_AT_THE_ENDS: [u64; 5] = [10_758, 62_412, 78_233, 116_591, 134_212];
+pub const SEEDS_WITH_HALVES_AT_THE_ENDS: [u64; 7] = [44_128, 48_581, 50_420, 51_629, 94_819, 104_995, 137_578];
 
 /// The same for the thirteen-term Henderson sums.
-pub const SEEDS_WITH_HALVES_IN_THE_MIDDLE: [u64; 12] =
-    [14, 29, 72, 156, 268, 303, 350, 430, 2_478, 12_551, 21_741, 22_018];
+pub const SEEDS_WITH_HALVES_IN_THE_MIDDLE: [u64; 14] =
+    [64, 269, 295, 355, 411, 443, 524, 577, 8_184, 14_178, 17_026, 22_869, 29_054, 30_338];
 
 /// How many Henderson sums over a series fall on a half: those with all
 /// thirteen terms, and those at the ends.
@@ -108,6 +108,105 @@ pub fn henderson_halves(series: &[i64]) -> (usize, usize) {
         }
     }
     (middle, ends)
+}
+
+/// The month from 0 to 11 that place t of a series is, January being 0.
+fn calendar_month(start: u8, t: usize) -> usize {
+    (usize::from(start) - 1 + t) % 12
+}
+
+/// The places of a calendar month, oldest first.
+fn places_of(month: usize, start: u8, n: usize) -> Vec<usize> {
+    (0..n).filter(|&t| calendar_month(start, t) == month).collect()
+}
+
+/// A plain seasonal by calendar month; the twelve values sum to zero.
+pub const PLAIN_SEASONAL: [i64; 12] =
+    [-6_000, -4_500, -1_000, 500, 2_500, 4_000, 3_000, -2_500, 1_500, 3_500, 2_000, -3_000];
+
+/// A smooth series with the plain seasonal.
+pub fn smooth(start: u8, n: usize) -> Vec<i64> {
+    (0..n).map(|t| 100_000 + 150 * t as i64 + PLAIN_SEASONAL[calendar_month(start, t)]).collect()
+}
+
+/// How far a flooded January lies below.
+pub const FLOOD: i64 = 50_000;
+
+/// Smooth series with some Januaries flooded: name, start, figures and the
+/// places of the floods.
+pub fn flooded_januaries() -> Vec<(Case, Vec<usize>)> {
+    let mut list = Vec::new();
+    for (n, start) in [(72, 1), (72, 7), (80, 12), (114, 10), (144, 1), (600, 4)] {
+        let januaries = places_of(0, start, n);
+        let many = januaries.len();
+        for chosen in [
+            vec![0],
+            vec![1],
+            vec![many / 2],
+            vec![many - 2],
+            vec![many - 1],
+            vec![0, many - 1],
+            vec![1, many - 2],
+            vec![0, 1, many - 2, many - 1],
+            vec![1, 2, 3],
+            vec![2, 3, 4],
+        ] {
+            let mut figures = smooth(start, n);
+            let floods: Vec<usize> = chosen.iter().map(|&index| januaries[index]).collect();
+            for &t in &floods {
+                figures[t] -= FLOOD;
+            }
+            let names: Vec<String> = floods.iter().map(usize::to_string).collect();
+            list.push((case(format!("flood_at{}_n{n}_s{start}", names.join("_")), start, figures), floods));
+        }
+    }
+    list
+}
+
+/// Series in which a month of the calendar is never of full weight, or only
+/// in one, two or three years of its run: everywhere else that month lies
+/// far off, now above and now below.
+pub fn months_far_off() -> Vec<Case> {
+    let mut list = Vec::new();
+    for (index, (n, start)) in [(72, 7), (77, 2), (96, 1), (120, 9), (150, 5)].into_iter().enumerate() {
+        for kept in 0..=3usize {
+            for month in [0, 5, 10] {
+                let mut dice = Dice::new(40_000 + 100 * index as u64 + 10 * kept as u64 + month as u64);
+                let mut figures = smooth(start, n);
+                for figure in figures.iter_mut() {
+                    *figure += dice.between(-40, 40);
+                }
+                let places = places_of(month, start, n);
+                let quiet: Vec<usize> = (0..kept).map(|_| dice.between(0, places.len() as i64 - 1) as usize).collect();
+                for (year, &t) in places.iter().enumerate() {
+                    if !quiet.contains(&year) {
+                        let off = 20_000 + dice.between(-3_000, 3_000);
+                        figures[t] += if year % 2 == 0 { off } else { -off };
+                    }
+                }
+                list.push(case(format!("far_off_month{month}_kept{kept}_n{n}_s{start}"), start, figures));
+            }
+        }
+    }
+    list
+}
+
+/// Ordinary series with extremes of many sizes, for every start month with
+/// every short length and the longest two: whole and part weights, all sides.
+pub fn extremes_from_every_start() -> Vec<Case> {
+    let mut list = Vec::new();
+    for n in (72..=84).chain([599, 600]) {
+        for start in 1..=12u8 {
+            let mut dice = Dice::new(60_000 + 100 * n as u64 + u64::from(start));
+            let mut figures = ordinary(&mut dice, n, 50_000, 8_000, 400);
+            for _ in 0..n / 8 {
+                let place = dice.between(0, n as i64 - 1) as usize;
+                figures[place] += dice.between(-3_000, 3_000);
+            }
+            list.push(case(format!("extremes_n{n}_s{start}"), start, figures));
+        }
+    }
+    list
 }
 
 /// All cases of figures.
@@ -233,6 +332,11 @@ pub fn cases() -> Vec<Case> {
         }
     }
 
+    // Extreme months, for the replacing in pass B.
+    list.extend(flooded_januaries().into_iter().map(|(case, _)| case));
+    list.extend(months_far_off());
+    list.extend(extremes_from_every_start());
+
     list.push(Case { name: "book_n114_s10".to_string(), start: 10, figures: book_series() });
     list
 }
@@ -265,6 +369,7 @@ pub fn grain_cases() -> Vec<GrainCase> {
 #[cfg(test)]
 mod tests {
     use super::*;
+    use crate::calendar::labels;
     use std::collections::BTreeSet;
 
     #[test]
@@ -287,6 +392,20 @@ mod tests {
         }
         let grain_names: BTreeSet<String> = grain_cases().into_iter().map(|c| c.name).collect();
         assert_eq!(grain_names.len(), grain_cases().len());
+    }
+
+    #[test]
+    fn a_flood_is_a_january() {
+        assert_eq!(PLAIN_SEASONAL.iter().sum::<i64>(), 0);
+        for (case, floods) in flooded_januaries() {
+            let labels = labels(case.start, case.figures.len());
+            let dry = smooth(case.start, case.figures.len());
+            for (t, label) in labels.iter().enumerate() {
+                let below = dry[t] - i64::from(case.figures[t]);
+                assert_eq!(below, if floods.contains(&t) { FLOOD } else { 0 }, "{} month {t}", case.name);
+                assert!(below == 0 || label.month == 1);
+            }
+        }
     }
 
     #[test]

@@ -9,6 +9,8 @@ use separate::calendar::labels;
 use separate::decompose::{check_size_and_start, decompose_fitting, Refusal};
 use separate::desk::{bytes_of, write};
 use separate::exact::{distance, exact_pass, exact_working, FourDistances};
+use separate::exact_b::{exact_pass_b, DistanceB};
+use separate::extremes::Extremes;
 use separate::generators::{cases, grain_cases, henderson_halves, small_random};
 use separate::pass::{pass, Steps};
 use separate::print::printed;
@@ -23,6 +25,8 @@ separate weights START     irregular in grains: t weight
 separate exact START       figures: t E10 E11 E12 E13 as fractions
 separate distances START   figures: greatest distances of D10 to D13 and whether they are within limits
 separate passdistances     grains: greatest distances of T2 and S2
+separate passbdistances START
+                           figures: the same of pass B, its weights and neighbours held
 separate print             a desk file: what the printing program writes
 separate mkdesk START      figures: a desk file with all weights 1000
 separate mkraw START PER   the same without any check, with a period byte of one's own
@@ -61,6 +65,7 @@ fn run(words: &[&str]) -> Result<Vec<u8>, String> {
         ["exact", start] => answered(print_exact(&figures()?, month(start)?)),
         ["distances", start] => answered(print_distances(&figures()?, month(start)?)),
         ["passdistances"] => answered(print_pass_distances(&numbers()?)),
+        ["passbdistances", start] => answered(print_pass_b_distances(&figures()?, month(start)?)),
         ["print"] => printed(&standard_input()?),
         ["mkdesk", start] => return make_desk(&figures()?, month(start)?),
         ["mkraw", start, period] => {
@@ -153,10 +158,29 @@ fn steps_lines(front: &str, steps: &Steps) -> String {
     text
 }
 
+/// The working of extreme values, each table with the book's letter.
+fn extremes_lines(name: &str, extremes: &Extremes) -> String {
+    let first = extremes.irregular.first;
+    let mut text = String::new();
+    for (letter, table) in [
+        ("a", &extremes.seasonal.r),
+        ("b", &extremes.seasonal.m),
+        ("c", &extremes.seasonal.s),
+        ("d", &extremes.irregular),
+    ] {
+        text.push_str(&table_lines("B ", &format!("{name}{letter}"), first, &table.values));
+    }
+    text.push_str(&table_lines("B ", &format!("{name}f"), first, &extremes.weights));
+    text.push_str(&table_lines("B ", &format!("{name}g"), first, &extremes.replaced.values));
+    text
+}
+
 fn all_steps(figures: &[i32], start: u8) -> Result<String, Refusal> {
     let tables = decompose_fitting(figures, start)?;
     let mut text = String::new();
     text.push_str(&steps_lines("B ", &tables.b));
+    text.push_str(&extremes_lines("B4", &tables.b4));
+    text.push_str(&extremes_lines("B9", &tables.b9));
     text.push_str(&table_lines("B ", "B13", 0, &tables.b13));
     text.push_str(&table_lines("B ", "B17", 0, &tables.b17));
     text.push_str(&table_lines("B ", "B20", 0, &tables.b20));
@@ -233,6 +257,18 @@ fn print_pass_distances(grains: &[i64]) -> Result<String, Refusal> {
     {
         let word = if d.is_within(limit) { "within" } else { "beyond" };
         text.push_str(&format!("{name} {} about {:.4} at {} {word} {limit}\n", d.greatest, d.greatest.roughly(), d.place));
+    }
+    Ok(text)
+}
+
+fn print_pass_b_distances(figures: &[i32], start: u8) -> Result<String, Refusal> {
+    let tables = decompose_fitting(figures, start)?;
+    let exact = exact_pass_b(&tables.b1, &tables.b4.held(), &tables.b9.held());
+    let mut text = String::new();
+    for (name, rounded, exact, limit) in [("T2", &tables.b7, &exact.t2, 6), ("S2", &tables.b10, &exact.s2, 13)] {
+        let d = DistanceB::measure(rounded, exact);
+        let word = if d.is_within(limit) { "within" } else { "beyond" };
+        text.push_str(&format!("{name} about {:.4} at {} {word} {limit}\n", d.roughly(), d.place));
     }
     Ok(text)
 }

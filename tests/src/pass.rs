@@ -1,7 +1,9 @@
 //! One pass with its steps.  Each filter gives a table of exact fractions,
 //! which is then rounded once to whole grains.
 
-use crate::calendar::{labels, run};
+use crate::calendar::{labels, run, Label};
+use crate::decompose::Refusal;
+use crate::extremes::Extremes;
 use crate::rows::{henderson_at, three_by_five, three_by_three};
 
 /// The nearest whole number to upper over lower (above zero), a half away
@@ -175,30 +177,59 @@ impl Steps {
     }
 }
 
-/// One pass over a series of at least 72 grains.
-pub fn pass(series: &[i64]) -> Steps {
-    let n = series.len();
-    assert!(n >= 72, "a pass needs six values of every month");
-    let x = Placed::whole_series(series.to_vec());
+/// The first trend and what it leaves of the series (steps 1 and 2).
+struct FirstTrend {
+    t1: Placed,
+    si1: Placed,
+    halves: usize,
+}
 
-    // 1, 2: first trend and what it leaves.
-    let t1_exact = two_by_twelve(&x);
-    let t1 = t1_exact.rounded();
-    assert_eq!((t1.first, t1.last()), (6, n - 7));
-    let si1 = x.part(6, n - 7).less(&t1);
+fn first_trend(x: &Placed) -> FirstTrend {
+    let exact = two_by_twelve(x);
+    let t1 = exact.rounded();
+    let si1 = x.part(t1.first, t1.last()).less(&t1);
+    FirstTrend { t1, si1, halves: exact.halves() }
+}
 
-    // 3: seasonal of the runs.
-    let r1_exact = seasonal_3x3(&si1);
-    let r1 = r1_exact.rounded();
+/// A seasonal filter over runs.
+pub type RunFilter = fn(&Placed) -> Fractions;
 
-    // 4: its own 2×12 taken off; six months lent at each end.
-    let m1_exact = two_by_twelve(&r1);
-    let m1_known = m1_exact.rounded();
-    assert_eq!((m1_known.first, m1_known.last()), (12, n - 13));
-    let m1 = ends_repeated(&m1_known, 6, n - 7);
-    let s1_known = r1.less(&m1);
-    let mut s1_values = Vec::new();
+/// A seasonal over the months of the table that it is worked from: the
+/// filter of the runs, its 2×12 with the ends repeated, and the difference
+/// (steps 3 and 4 without the copying, steps 6 and 7).
+#[derive(Clone, Debug, PartialEq, Eq)]
+pub struct Seasonal {
+    pub r: Placed,
+    pub m: Placed,
+    pub s: Placed,
+    /// How many sums of R and M fell exactly on a half.
+    pub halves: [usize; 2],
+}
+
+pub fn seasonal(si: &Placed, filter: RunFilter) -> Seasonal {
+    let r_exact = filter(si);
+    let r = r_exact.rounded();
+    let m_exact = two_by_twelve(&r);
+    let m = ends_repeated(&m_exact.rounded(), si.first, si.last());
+    let s = r.less(&m);
+    Seasonal { r, m, s, halves: [r_exact.halves(), m_exact.halves()] }
+}
+
+/// The first seasonal over all months, the adjusted series, the second
+/// trend and what it leaves (the rest of step 4, step 5, the first of 6).
+struct SecondTrend {
+    s1: Placed,
+    a1: Placed,
+    t2: Placed,
+    si2: Placed,
+    halves: usize,
+}
+
+fn second_trend(x: &Placed, known: &Placed) -> SecondTrend {
+    let n = x.values.len();
+    let mut values = Vec::new();
     for t in 0..n {
+        // Six months at each end take the value of the year next to them.
         let source = if t < 6 {
             t + 12
         } else if t + 6 >= n {
@@ -206,36 +237,75 @@ pub fn pass(series: &[i64]) -> Steps {
         } else {
             t
         };
-        s1_values.push(s1_known.at(source));
+        values.push(known.at(source));
     }
-    let s1 = Placed::whole_series(s1_values);
-
-    // 5: adjusted series and second trend.
+    let s1 = Placed::whole_series(values);
     let a1 = x.less(&s1);
-    let t2_exact = henderson(&a1.values);
-    let t2 = t2_exact.rounded();
-
-    // 6: what the second trend leaves, and its seasonal.
+    let exact = henderson(&a1.values);
+    let t2 = exact.rounded();
     let si2 = x.less(&t2);
-    let r2_exact = seasonal_3x5(&si2);
-    let r2 = r2_exact.rounded();
+    SecondTrend { s1, a1, t2, si2, halves: exact.halves() }
+}
 
-    // 7: its own 2×12 taken off.
-    let m2_exact = two_by_twelve(&r2);
-    let m2_known = m2_exact.rounded();
-    assert_eq!((m2_known.first, m2_known.last()), (6, n - 7));
-    let m2 = ends_repeated(&m2_known, 0, n - 1);
-    let s2 = r2.less(&m2);
+fn gathered(x: Placed, one: FirstTrend, early: Seasonal, two: SecondTrend, late: Seasonal) -> Steps {
+    let n = x.values.len();
+    assert_eq!((one.si1.first, one.si1.last()), (6, n - 7));
+    assert_eq!((late.s.first, late.s.last()), (0, n - 1));
+    let halves = [one.halves, early.halves[0], early.halves[1], two.halves, late.halves[0], late.halves[1]];
+    Steps {
+        x,
+        t1: one.t1,
+        si1: one.si1,
+        r1: early.r,
+        m1: early.m,
+        s1: two.s1,
+        a1: two.a1,
+        t2: two.t2,
+        si2: two.si2,
+        r2: late.r,
+        m2: late.m,
+        s2: late.s,
+        halves,
+    }
+}
 
-    let halves = [
-        t1_exact.halves(),
-        r1_exact.halves(),
-        m1_exact.halves(),
-        t2_exact.halves(),
-        r2_exact.halves(),
-        m2_exact.halves(),
-    ];
-    Steps { x, t1, si1, r1, m1, s1, a1, t2, si2, r2, m2, s2, halves }
+fn series_of_a_pass(series: &[i64]) -> Placed {
+    assert!(series.len() >= 72, "a pass needs six values of every month");
+    Placed::whole_series(series.to_vec())
+}
+
+/// One pass over a series of at least 72 grains, as passes C and D are: no
+/// value of SI1 or SI2 is replaced.
+pub fn pass(series: &[i64]) -> Steps {
+    let x = series_of_a_pass(series);
+    let one = first_trend(&x);
+    let early = seasonal(&one.si1, seasonal_3x3);
+    let two = second_trend(&x, &early.s);
+    let late = seasonal(&two.si2, seasonal_3x5);
+    gathered(x, one, early, two, late)
+}
+
+/// Pass B: its steps, SI1 and SI2 among them as they were, and the working
+/// of the extreme values in each (tables B4 and B9).
+#[derive(Clone, Debug, PartialEq, Eq)]
+pub struct PassB {
+    pub steps: Steps,
+    pub b4: Extremes,
+    pub b9: Extremes,
+}
+
+/// Pass B over a series of at least 72 grains, with the labels of its
+/// months.  R1 and R2 come from the tables with extreme values replaced; row
+/// 6 of the sheet answers for both weighings.
+pub fn pass_b(series: &[i64], labels: &[Label]) -> Result<PassB, Refusal> {
+    let x = series_of_a_pass(series);
+    let one = first_trend(&x);
+    let b4 = Extremes::of(&one.si1, seasonal_3x3, labels)?;
+    let early = seasonal(&b4.replaced, seasonal_3x3);
+    let two = second_trend(&x, &early.s);
+    let b9 = Extremes::of(&two.si2, seasonal_3x5, labels)?;
+    let late = seasonal(&b9.replaced, seasonal_3x5);
+    Ok(PassB { steps: gathered(x, one, early, two, late), b4, b9 })
 }
 
 #[cfg(test)]

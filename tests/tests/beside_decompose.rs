@@ -23,7 +23,7 @@ fn every_made_up_series() {
         }
         worked += 1;
     }
-    assert!(worked > 600);
+    assert!(worked > 950);
 }
 
 #[test]

@@ -3,7 +3,7 @@
 //!
 //! The book works multiplicatively and with calendar effects, so its final
 //! tables cannot be compared.  But its filters are ours, and it prints most
-//! tables together with the table they were filtered from.  Two comparisons:
+//! tables together with the table they were filtered from.  Three comparisons:
 //!
 //! 1. Pair by pair, from the printed input.  The printed tables are rounded
 //!    to three decimals, which we read as grains, while the book filtered
@@ -12,11 +12,17 @@
 //! 2. Part B worked through from B1 without rounding, in floating numbers,
 //!    multiplicatively as the book does it and with our filter rows.  Here
 //!    every printed digit can be asked for, from B2 to B13.
+//! 3. Weights and replaced values, from the printed input.  The weights of B4
+//!    and B9 agree where the groups and what is dropped from them agree.  The
+//!    replaced values of B4g and B9g agree wherever there are two neighbours
+//!    on each side; where a side has fewer, the book takes four in all, the
+//!    other side lending, and we take the three nearest.
 
 use std::collections::BTreeMap;
-use separate::calendar::{by_year, labels, run, Label};
+use separate::calendar::{by_year, labels, labels_of_part, run, Label};
+use separate::extremes::{replaced_run, RunValue};
 use separate::fraction::Fraction;
-use separate::pass::{ends_repeated, henderson, seasonal_3x3, seasonal_3x5, two_by_twelve, Fractions, Placed};
+use separate::pass::{ends_repeated, henderson, nearest, seasonal_3x3, seasonal_3x5, two_by_twelve, Fractions, Placed};
 use separate::rows::{henderson_at, henderson_by_formula, musgrave_exact, musgrave_millionths, three_by_five, three_by_three};
 use separate::spread::{spreads_by_year, weights};
 use separate::whole::Whole;
@@ -577,5 +583,89 @@ fn weights_beside_the_book() {
             }
         }
         assert_eq!(compared, 12 * same_years.len());
+    }
+}
+
+/// The weights of document 01 beside the book's B4f and B9f, from the printed
+/// B4d and B9d.  The book's spreads are not in the file; they are worked from
+/// the printed irregular by the book's rule, which meets B4f and B9f to the
+/// last digit (above).  Where the group is five full years, both spreads and
+/// the weights agree; no value of these years is dropped by one rule only.
+/// Elsewhere the groups differ (57 months of B4d and 51 of B9d, the book 69
+/// and 63), and so do the spreads.
+#[test]
+fn weights_of_b4_and_b9_beside_the_book() {
+    let tables = printed_tables();
+    for (from, to, first_year, five_full_years) in
+        [("B4d", "B4f", 1986, 1989..=1991usize), ("B9d", "B9f", 1985, 1988..=1992)]
+    {
+        let (printed, book) = (placed(&tables[from]), placed(&tables[to]));
+        let percents = (printed.first..=printed.last()).map(|t| (t, printed.at(t) as f64 / 1000.0)).collect();
+        let (first, second) = book_spreads(&percents);
+        let labels = labels_of_part(&labels(10, N), printed.first, printed.last());
+        let irregular: Vec<i64> = printed.values.iter().map(|v| (v - 100_000) * 1_000_000).collect();
+        let close = |units: u64, percent: f64| (units as f64 / 1e6 - percent).abs() < 0.00011;
+        for (index, &(one, two)) in spreads_by_year(&irregular, &labels).unwrap().iter().enumerate() {
+            let year = first_year + index;
+            assert_eq!(close(one, first[&(year - 1985)]), five_full_years.contains(&year), "{to} {year}");
+            assert_eq!(close(two, second[&(year - 1985)]), five_full_years.contains(&year), "{to} {year}");
+        }
+        let ours = weights(&irregular, &labels).unwrap();
+        let mut compared = 0;
+        for (index, label) in labels.iter().enumerate() {
+            if five_full_years.contains(&(first_year + label.year)) {
+                let off = i64::from(ours[index]) * 100 - book.values[index];
+                assert!(off.abs() <= 100, "{to} month {index}: {} and {}", ours[index], book.values[index]);
+                compared += 1;
+            }
+        }
+        assert_eq!(compared, 12 * five_full_years.count());
+    }
+}
+
+/// The replaced values beside B4g and B9g, from the printed B3 and B8 and the
+/// printed weights.  These are brought to thousandths first, as ours are, and
+/// half a thousandth moves a mean by at most 1/2,000 of its distance from the
+/// value, over the weights; half a grain more is the printed input's and half
+/// a grain the printed result's.  The months not met are those where a side
+/// has fewer than two values of full weight.
+#[test]
+fn replaced_values_beside_b4g_and_b9g() {
+    let tables = printed_tables();
+    let labels = labels(10, N);
+    for (from, by, to, met, others) in [
+        ("B3", "B4f", "B4g", 7, vec![6usize, 12, 15, 30, 36, 79, 87, 96, 103, 106]),
+        ("B8", "B9f", "B9g", 7, vec![3, 5, 6, 10, 15, 105, 106]),
+    ] {
+        let (si, weights, book) = (placed(&tables[from]), placed(&tables[by]), placed(&tables[to]));
+        let (mut found_met, mut not_met, mut one_sided) = (0, Vec::new(), Vec::new());
+        for month in 1..=12 {
+            let places = run(&labels, month, si.first, si.last());
+            let values: Vec<RunValue> = places
+                .iter()
+                .map(|&t| RunValue { year: labels[t].year, value: si.at(t), weight: nearest(weights.at(t).into(), 100) as u16 })
+                .collect();
+            for ((&t, own), found) in places.iter().zip(&values).zip(replaced_run(&values)) {
+                if own.weight == 1000 {
+                    assert_eq!(book.at(t), si.at(t), "{to} month {t}");
+                    continue;
+                }
+                let (upper, lower) = found.mean;
+                let mean = upper as f64 / lower as f64;
+                let reach = 1.0 + (mean - own.value as f64).abs() / 2.0 / lower as f64;
+                if (mean - book.at(t) as f64).abs() > reach {
+                    not_met.push(t);
+                } else {
+                    found_met += 1;
+                }
+                if found.neighbours.len() < 4 {
+                    one_sided.push(t);
+                }
+            }
+        }
+        not_met.sort();
+        one_sided.sort();
+        assert_eq!(not_met, one_sided, "{to}");
+        assert_eq!((found_met, not_met), (met, others), "{to}");
     }
 }

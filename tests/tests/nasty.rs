@@ -1,8 +1,11 @@
-//! The made-up series: the parts add back, the four distances and those of
-//! the passes keep their limits, and halves of a grain really occur.
+//! The made-up series: the parts add back, the four distances, those of the
+//! passes and those of pass B keep their limits, and halves of a grain really
+//! occur.
 
 use separate::decompose::decompose_fitting;
 use separate::exact::{distance, exact_pass, exact_working, FourDistances};
+use separate::exact_b::{exact_pass_b, DistanceB, Held};
+use separate::fraction::Fraction;
 use separate::generators::{
     cases, grain_cases, henderson_halves, small_random, SEEDS_WITH_HALVES_AT_THE_ENDS, SEEDS_WITH_HALVES_IN_THE_MIDDLE,
 };
@@ -72,6 +75,60 @@ fn the_passes_keep_their_distance() {
     println!("greatest distances of T2 and S2: {greatest:?}");
     // S2 within 1 grain is a wrong bound (tables/must-fail/s2-within-1).
     assert!(greatest[1] > 1.0);
+}
+
+/// Pass B with its weights and neighbours held: T2 within 6 grains, S2 within
+/// 13.
+#[test]
+fn pass_b_keeps_its_distance() {
+    let mut greatest = [(0.0f64, String::new()), (0.0f64, String::new())];
+    let mut beyond_when_left_out = [0, 0];
+    for case in cases() {
+        let tables = decompose_fitting(&case.figures, case.start).unwrap();
+        let (of_si1, of_si2) = (tables.b4.held(), tables.b9.held());
+        let exact = exact_pass_b(&tables.b1, &of_si1, &of_si2);
+        let t2 = DistanceB::measure(&tables.b7, &exact.t2);
+        let s2 = DistanceB::measure(&tables.b10, &exact.s2);
+        assert!(t2.is_within(6), "{}", case.name);
+        assert!(s2.is_within(13), "{}", case.name);
+        for (best, d) in greatest.iter_mut().zip([t2, s2]) {
+            if d.roughly() > best.0 {
+                *best = (d.roughly(), format!("{} month {}", case.name, d.place));
+            }
+        }
+        // Without the means of SI1 the trend lies far off, without those of
+        // SI2 the seasonal.
+        if !of_si1.is_empty() {
+            let without = exact_pass_b(&tables.b1, &Held::new(), &of_si2);
+            beyond_when_left_out[0] += usize::from(!DistanceB::measure(&tables.b7, &without.t2).is_within(6));
+        }
+        if !of_si2.is_empty() {
+            let without = exact_pass_b(&tables.b1, &of_si1, &Held::new());
+            beyond_when_left_out[1] += usize::from(!DistanceB::measure(&tables.b10, &without.s2).is_within(13));
+        }
+    }
+    println!("greatest distances of T2 and S2 in pass B: {greatest:?}");
+    println!("series beyond the limits without the means of SI1, of SI2: {beyond_when_left_out:?}");
+    // A bound of 1 grain would be wrong for either.
+    assert!(greatest[0].0 > 1.0 && greatest[1].0 > 1.0);
+    assert!(beyond_when_left_out[0] > 400 && beyond_when_left_out[1] > 400);
+}
+
+/// With nothing held the exact working of pass B is that of a plain pass, in
+/// lowest terms.
+#[test]
+fn with_nothing_held_pass_b_is_a_plain_pass() {
+    for case in cases().into_iter().filter(|case| case.figures.len() < 130).step_by(41) {
+        let x: Vec<i64> = case.figures.iter().map(|&figure| 1000 * i64::from(figure)).collect();
+        let plain = exact_pass(&x);
+        let held = exact_pass_b(&x, &Held::new(), &Held::new());
+        for (fractions, table) in [(&plain.t2, &held.t2), (&plain.s2, &held.s2)] {
+            assert_eq!(table.uppers.len(), fractions.len());
+            for (upper, fraction) in table.uppers.iter().zip(fractions) {
+                assert_eq!(&Fraction::lowest(upper.clone(), table.lower.clone()), fraction, "{}", case.name);
+            }
+        }
+    }
 }
 
 #[test]

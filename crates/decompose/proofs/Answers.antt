@@ -20,7 +20,7 @@ use Rattle.extremes.proofs.YearLaws.{part-calendar}
 use Rattle.tables.specs.Tables.{choicesD, finalTrend, B1, B13, C13, D1, D10, D11, D12, D13}
 use Rattle.tables.specs.PassB.{startB4, irregularB4, irregularB9}
 use Rattle.tables.proofs.Sizes.{length-b1, length-irregularB4, length-irregularB9, length-b13, length-c13}
-use Rattle.tables.proofs.Nearness.{pass-near, pass-b-near, near-at}
+use Rattle.tables.proofs.Nearness.{passes-near, near-at}
 use Rattle.checks.specs.Answer.{groupEmptied}
 use Rattle.checks.specs.Contracts.{Workable, Accepts, Refuses}
 use Rattle.decompose.specs.Promise.{Slices, lengthsOf, says, answer, after, Promise}
@@ -35,9 +35,7 @@ refused {start} {f} {lent} {q} h = record {
   answered = sym (h .answer-is);
   slices = rw (h .answer-is, h .not-six);
   near = λ e. absurd (no-success e);
-  pass-b = pass-b-near _ _;
-  pass-c = pass-near _;
-  pass-d = pass-near _;
+  passes = passes-near start f;
 }
 
 -- ---- no group is emptied
@@ -101,7 +99,5 @@ tables {start} {f} {lent} {left} {r} h k =
       answered = ap says (k .answered) ∙ sym (answer-is lent h);
       slices = rw (answer-is lent h) (same left _ e10 e11 e12 e13 (k .b17-is) (k .c17-is) (k .scratch-is));
       near = λ e i l. rw (e10, e11, e12, e13) (near-at start f i l);
-      pass-b = pass-b-near _ _;
-      pass-c = pass-near _;
-      pass-d = pass-near _;
+      passes = passes-near start f;
     }

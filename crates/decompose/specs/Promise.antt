@@ -8,8 +8,8 @@ use lib.ListN.{length, drop}
 use lib.IntN.{ℤ, pos}
 use Rattle.integers.specs.Lists.{tab}
 use Rattle.refusals.specs.Sheet.{Answer, success, refusal, refusalOf}
-use Rattle.tables.specs.Tables.{choicesC, choicesD, B1, B17, C1, C17, D1, D10, D11, D12, D13}
-use Rattle.tables.specs.Nearness.{PassNear, PassBNear, NearAt}
+use Rattle.tables.specs.Tables.{B1, B17, C17, D1, D10, D11, D12, D13}
+use Rattle.tables.specs.Nearness.{PassesNear, NearAt}
 use Rattle.checks.specs.declared.Lengths.{Lengths}
 use Rattle.checks.specs.Answer.{scratchFor, answerFor}
 use Rattle.decompose.specs.declared.Decomposed.{Decomposed}
@@ -76,8 +76,5 @@ pub record Promise (start : ℕ) (figures : List ℤ) (lent : Slices) (r : Decom
   -- METHOD 10.3 with 6.4: where the answer is tables, in each month
   pub near : says r ≡ success tt → (t : ℕ) → t < length figures
       → NearAt (B1 start figures) (D1 start figures) (left .d10) (left .d11) (left .d12) (left .d13) t
-  -- METHOD 6.3, of each pass on its X, which is B1, C1 or D1: facts of the rules, which hold whatever the program leaves. Pass B holds the weights and
-  -- neighbours by which it replaced values
-  pub pass-b : PassBNear start (B1 start figures)
-  pub pass-c : PassNear choicesC (C1 start figures)
-  pub pass-d : PassNear choicesD (D1 start figures)
+  -- METHOD 6.3, of each pass on its X: facts of the rules, which hold whatever the program leaves
+  pub passes : PassesNear start figures

@@ -17,12 +17,12 @@ use Rattle.steps.specs.Steps.{S2}
 use Rattle.steps.specs.Exact.{overS2, exactS2}
 use Rattle.steps.proofs.Sound.{monthly-sound, plain-sound}
 use Rattle.steps.proofs.Distances.{near, own-s2, close-norm}
-use Rattle.tables.specs.Tables.{choicesD, finalTrend, B1, D1, D10, D11, D12, D13}
+use Rattle.tables.specs.Tables.{choicesD, finalTrend, B1, C1, D1, D10, D11, D12, D13}
 use Rattle.tables.specs.Exact.{overE, E10, E11, E12, E13}
-use Rattle.tables.specs.Nearness.{PassNear, PassBNear, NearAt}
+use Rattle.tables.specs.Nearness.{PassNear, PassesNear, NearAt}
 use Rattle.tables.proofs.Sizes.{length-b1}
 
--- how far T2, S2, D12 and D13 are, in thousandths of a grain
+-- how far T2, S2, D12 and D13 are, in thousandths of a grain; B7 and B10 below
 abbrev farT2 : ℕ
 farT2 = 3750
 
@@ -35,15 +35,19 @@ farD12 = 12_200
 abbrev farD13 : ℕ
 farD13 = farS2 + farD12
 
-pub pass-near : (x : List ℤ) → PassNear plainMonthly x
-pass-near x = near plain-sound x farT2 (omega arith) _ _ (omega arith) (omega arith)
-
 -- B7, and B10: 12.6 grains
 abbrev farB7 : ℕ
 farB7 = 5050
 
-pub pass-b-near : (start : ℕ) (x : List ℤ) → PassBNear start x
-pass-b-near start x = near (monthly-sound _ _) x farB7 (omega arith) _ _ (omega arith) (omega arith)
+pub passes-near : (start : ℕ) (f : List ℤ) → PassesNear start f
+passes-near start f = record {
+  pass-b = near (monthly-sound _ _) (B1 start f) farB7 (omega arith) _ _ (omega arith) (omega arith);
+  pass-c = plain (C1 start f);
+  pass-d = plain (D1 start f);
+}
+  where
+    plain : (x : List ℤ) → PassNear plainMonthly x
+    plain x = near plain-sound x farT2 (omega arith) _ _ (omega arith) (omega arith)
 
 -- seasonal, trend and irregular are the series
 adds : (b1 s t : List ℤ) (i : ℕ) → i < length b1 → (s ‼ i) +ℤ (t ‼ i) +ℤ (minus (minus b1 s) t ‼ i) ≡ b1 ‼ i

@@ -35,11 +35,11 @@ numbers (WeightAbove t) e = omega arith
 module _ {start : ℕ} {f : List ℤ} {lent left : tables.Slices} {r : Decomposed} (p : tables.Promise start f lent r left) where
   pub has-tables : r ≡ decomposed.Tables → DecomposeNumbers start f lent 0 0 left
   has-tables e = let s = ap tables.says (sym e) ∙ p .answered in
-      record { number-is = ap numberOf s; place-is = ap placeOf s; slices = p .slices; near = λ _. p .near (ap tables.says e); pass-b = p .pass-b; pass-c = p .pass-c; pass-d = p .pass-d }
+      record { number-is = ap numberOf s; place-is = ap placeOf s; slices = p .slices; near = λ _. p .near (ap tables.says e); passes = p .passes }
 
   pub not-tables : {q : Refusal} {k t : ℕ} → r ≡ decomposed.Refused q → k ≡ row q .number → t ≡ row q .place → DecomposeNumbers start f lent k t left
   not-tables {q} e i j = let s = ap tables.says (sym e) ∙ p .answered in
-      record { number-is = i ∙ ap numberOf s; place-is = j ∙ ap placeOf s; slices = p .slices; near = λ z. absurd (numbers q (sym i ∙ z)); pass-b = p .pass-b; pass-c = p .pass-c; pass-d = p .pass-d }
+      record { number-is = i ∙ ap numberOf s; place-is = j ∙ ap placeOf s; slices = p .slices; near = λ z. absurd (numbers q (sym i ∙ z)); passes = p .passes }
 
 module _ {file : List ℕ} {f₀ f : List ℤ} {w₀ w : List ℕ} {r : Reading} (p : ReadDone file f₀ w₀ r f w) where
   pub has-series : {n m : ℕ} → r ≡ reading.Series n m → ReadNumbers file f₀ w₀ 0 n m 0 f w

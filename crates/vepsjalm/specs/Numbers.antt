@@ -5,8 +5,8 @@ use Prim.Native.Nat.{ℕ, _<_}
 use lib.ListN.{length}
 use lib.IntN.{ℤ}
 use Rattle.refusals.specs.Sheet.{Answer, success, refusal}
-use Rattle.tables.specs.Tables.{choicesB, choicesC, choicesD, B1, C1, D1}
-use Rattle.tables.specs.Nearness.{PassNear, NearAt}
+use Rattle.tables.specs.Tables.{B1, D1}
+use Rattle.tables.specs.Nearness.{PassesNear, NearAt}
 use Rattle.decompose.specs.Promise.{Slices, answer, after}
 use Rattle.desk_file.specs.File.{SeriesWithWeights}
 use Rattle.desk_file.specs.ReadFile.{Accepted, readAnswer, figuresAfter, weightsAfter}
@@ -34,9 +34,7 @@ pub record DecomposeNumbers (start : ℕ) (figures : List ℤ) (lent : Slices) (
   pub slices : left ≡ after (answer start figures lent) start figures lent
   pub near : number ≡ 0 → (t : ℕ) → t < length figures
       → NearAt (B1 start figures) (D1 start figures) (left .d10) (left .d11) (left .d12) (left .d13) t
-  pub pass-b : PassNear choicesB (B1 start figures)
-  pub pass-c : PassNear choicesC (C1 start figures)
-  pub pass-d : PassNear choicesD (D1 start figures)
+  pub passes : PassesNear start figures
 
 -- reading: the number returned, the count, start month and place left, and both slices
 pub record ReadNumbers (file : List ℕ) (figures₀ : List ℤ) (weights₀ : List ℕ) (number count start place : ℕ) (figures : List ℤ) (weights : List ℕ) : Type 0 where
