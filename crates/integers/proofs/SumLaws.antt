@@ -19,6 +19,12 @@ pub sum-more : (k : ℕ) (f : ℕ → ℤ) → sumZ (k + 1) f ≡ sumZ k f +ℤ 
 unfolding sumZ
 sum-more k f = rw add-one
 
+-- the first term apart
+pub sum-front : (n : ℕ) (f : ℕ → ℤ) → sumZ (suc n) f ≡ f 0 +ℤ sumZ n (λ j. f (suc j))
+unfolding sumZ
+sum-front zero f = rw (rep (f 0)) (simp ringℤ (omega arith))
+sum-front (suc n) f = rw (sum-front n f) (rw (rep (f 0), rep (sumZ n (λ j. f (suc j))), rep (f (suc n))) (simp ringℤ (omega arith)))
+
 pub sumN-more : (k : ℕ) (f : ℕ → ℕ) → sumN (k + 1) f ≡ sumN k f + f k
 unfolding sumN
 sumN-more k f = rw add-one

@@ -16,14 +16,14 @@ use Rattle.integers.proofs.Differences.{rep, ringℤ}
 use Rattle.integers.proofs.SizeLaws.{w+, w≤}
 use Rattle.integers.proofs.Signed64.{Reads, i+, i-in}
 use Rattle.filters.specs.Contracts.{largest}
-use Rattle.replacing.specs.Neighbours.{earlier, later, nearest}
+use Rattle.replacing.specs.Neighbours.{fullBefore, fullAfter, nearest}
 use Rattle.replacing.specs.Replaced.{sumAt}
-use Rattle.replacing.specs.Contracts.{listFrom, nearer, Back, Ahead, Summed}
+use Rattle.replacing.specs.Contracts.{listFrom, nearer, Back, Ahead, SumAndNumber}
 
 -- ---- which place is next: r, of the earlier place a and the later place b; E and L follow these in their lists
 module _ (n t k a b : ℕ) (E L : List ℕ) {r : ℕ} (e : r ≡ nearer n t a b) where
-  abbrev Nothing : Type 0
-  Nothing = (n ≤ r) × (nearest (suc k) t (listFrom n a E) (listFrom n b L) ≡ [])
+  abbrev NoPlace : Type 0
+  NoPlace = (n ≤ r) × (nearest (suc k) t (listFrom n a E) (listFrom n b L) ≡ [])
 
   abbrev Earlier : Type 0
   Earlier = (a < n) × (r ≡ a) × (nearest (suc k) t (listFrom n a E) (listFrom n b L) ≡ a ∷ nearest k t E (listFrom n b L))
@@ -31,11 +31,11 @@ module _ (n t k a b : ℕ) (E L : List ℕ) {r : ℕ} (e : r ≡ nearer n t a b)
   abbrev Later : Type 0
   Later = (b < n) × (r ≡ b) × (nearest (suc k) t (listFrom n a E) (listFrom n b L) ≡ b ∷ nearest k t (listFrom n a E) L)
 
-  choice : Nothing ⊎ (Earlier ⊎ Later)
+  choice : NoPlace ⊎ (Earlier ⊎ Later)
   unfolding listFrom nearest nearer
   choice = go (decLe (suc a) n) (decLe (suc b) n) (decLe (t - a) (b - t))
     where
-      go : Dec (a < n) → Dec (b < n) → Dec (t - a ≤ b - t) → Nothing ⊎ (Earlier ⊎ Later)
+      go : Dec (a < n) → Dec (b < n) → Dec (t - a ≤ b - t) → NoPlace ⊎ (Earlier ⊎ Later)
       go (no p) (no q) m =
           let h : n ≤ a = omega arith in let l : n ≤ b = omega arith in let f : r ≡ b = e ∙ simp (le-ltb a n h) in
           inl (omega arith, simp (le-ltb a n h, le-ltb b n l))
@@ -50,21 +50,21 @@ module _ (n t k a b : ℕ) (E L : List ℕ) {r : ℕ} (e : r ≡ nearer n t a b)
   nothing-next h = ⊎-elim (λ c. c .1) (⊎-elim (λ (c : Earlier). absurd (omega (arith, c))) (λ (c : Later). absurd (omega (arith, c)))) choice
 
   earlier-next : (b < n → t < b) → r < n → r < t → Earlier
-  earlier-next v h l = ⊎-elim (λ (c : Nothing). absurd (omega (arith, c))) (⊎-elim (λ c. c) (λ (c : Later). absurd (omega (arith, c, v (c .0))))) choice
+  earlier-next v h l = ⊎-elim (λ (c : NoPlace). absurd (omega (arith, c))) (⊎-elim (λ c. c) (λ (c : Later). absurd (omega (arith, c, v (c .0))))) choice
 
   later-next : (a < n → a < t) → r < n → t ≤ r → Later
-  later-next u h l = ⊎-elim (λ (c : Nothing). absurd (omega (arith, c))) (⊎-elim (λ (c : Earlier). absurd (omega (arith, c, u (c .0)))) (λ c. c)) choice
+  later-next u h l = ⊎-elim (λ (c : NoPlace). absurd (omega (arith, c))) (⊎-elim (λ (c : Earlier). absurd (omega (arith, c, u (c .0)))) (λ c. c)) choice
 
 -- ---- what is still to come, of `left` places at most, where a and b are the next on either side
 unfoldable pub coming : ℕ → List ℕ → ℕ → ℕ → ℕ → ℕ → List ℕ
-coming period w t a b left = nearest left t (listFrom (length w) a (earlier period w a)) (listFrom (length w) b (later period w b))
+coming period w t a b left = nearest left t (listFrom (length w) a (fullBefore period w a)) (listFrom (length w) b (fullAfter period w b))
 
 -- the three nearest
 unfoldable pub three : ℕ → List ℕ → ℕ → List ℕ
-three period w t = nearest 3 t (earlier period w t) (later period w t)
+three period w t = nearest 3 t (fullBefore period w t) (fullAfter period w t)
 
 -- if nothing is to come, all is summed
-all-summed : (x : List ℤ) (rest : List ℕ) {all : List ℕ} {s : ℤ} {count : ℕ} → rest ≡ [] → s +ℤ sumAt x rest ≡ sumAt x all → count + length rest ≡ length all → Summed x all s count
+all-summed : (x : List ℤ) (rest : List ℕ) {all : List ℕ} {s : ℤ} {count : ℕ} → rest ≡ [] → s +ℤ sumAt x rest ≡ sumAt x all → count + length rest ≡ length all → SumAndNumber x all s count
 unfolding sumAt
 all-summed x rest {s = s} e h k = record { sum-is = plus-zero s ∙ (rw e at h); count-is = omega (arith, k, ap length e) }
   where
@@ -100,7 +100,7 @@ module _ {period : ℕ} {x : List ℤ} {w : List ℕ} {t a b : ℕ} where
     pub choose-adds : AllWithin largest x → (p : ℕ) → Reads (s +ℤ toZ w64 (ofZ w64 (x ‼ p))) (s +ℤ (x ‼ p)) (3 * largest + largest)
     choose-adds y p = i+ {A = 3 * largest} (record { eq = refl; bound = w≤ (g .small) (omega (arith, g .most)) }) (i-in (y .at p) tt)
 
-    pub choose-end : 3 ≤ count → Summed x (three period w t) s count
+    pub choose-end : 3 ≤ count → SumAndNumber x (three period w t) s count
     unfolding coming nearest
     choose-end h = let e : 3 - count ≡ 0 = omega arith in all-summed x (coming period w t a b (3 - count)) (rw e) (g .sum-is) (g .count-is)
 
@@ -109,10 +109,10 @@ module _ {period : ℕ} {x : List ℤ} {w : List ℕ} {t a b : ℕ} where
       one-less : 3 - count ≡ suc (3 - (count + 1))
       one-less = omega arith
 
-      pub choose-none : length w ≤ r → Summed x (three period w t) s count
+      pub choose-none : length w ≤ r → SumAndNumber x (three period w t) s count
       unfolding coming
       choose-none l = all-summed x (coming period w t a b (3 - count))
-          (rw one-less (nothing-next (length w) t (3 - (count + 1)) a b (earlier period w a) (later period w b) e l)) (g .sum-is) (g .count-is)
+          (rw one-less (nothing-next (length w) t (3 - (count + 1)) a b (fullBefore period w a) (fullAfter period w b) e l)) (g .sum-is) (g .count-is)
 
       -- r is taken, and a′ and b′ are next
       taken : {a′ b′ : ℕ} {s′ : ℤ} → coming period w t a b (3 - count) ≡ r ∷ coming period w t a′ b′ (3 - (count + 1)) → s′ ≡ s +ℤ (x ‼ r) → AllWithin largest x
@@ -133,15 +133,15 @@ module _ {period : ℕ} {x : List ℤ} {w : List ℕ} {t a b : ℕ} where
       pub choose-earlier : {s′ : ℤ} {a′ : ℕ} → r < length w → r < t → s′ ≡ s +ℤ (x ‼ r) → AllWithin largest x → Back period w a a′ → Choosing period x w t a′ b (count + 1) s′
       unfolding coming
       choose-earlier {a′ = a′} l m more y k =
-          let c = earlier-next (length w) t (3 - (count + 1)) a b (earlier period w a) (later period w b) e (g .later-side) l m in
-          taken (ap (λ (j : ℕ). nearest j t (listFrom (length w) a (earlier period w a)) (listFrom (length w) b (later period w b))) one-less ∙ c .2
-          ∙ ap₂ (λ (p : ℕ) (q : List ℕ). p ∷ nearest (3 - (count + 1)) t q (listFrom (length w) b (later period w b))) (sym (c .1)) (k .next .from-place (c .0)))
+          let c = earlier-next (length w) t (3 - (count + 1)) a b (fullBefore period w a) (fullAfter period w b) e (g .later-side) l m in
+          taken (ap (λ (j : ℕ). nearest j t (listFrom (length w) a (fullBefore period w a)) (listFrom (length w) b (fullAfter period w b))) one-less ∙ c .2
+          ∙ ap₂ (λ (p : ℕ) (q : List ℕ). p ∷ nearest (3 - (count + 1)) t q (listFrom (length w) b (fullAfter period w b))) (sym (c .1)) (k .next .from-place (c .0)))
           more y (λ i. omega (arith, k .side i, g .earlier-side (c .0))) (g .later-side)
 
       pub choose-later : {s′ : ℤ} {b′ : ℕ} → r < length w → t ≤ r → s′ ≡ s +ℤ (x ‼ r) → AllWithin largest x → Ahead period w b b′ → Choosing period x w t a b′ (count + 1) s′
       unfolding coming
       choose-later {b′ = b′} l m more y k =
-          let c = later-next (length w) t (3 - (count + 1)) a b (earlier period w a) (later period w b) e (g .earlier-side) l m in
-          taken (ap (λ (j : ℕ). nearest j t (listFrom (length w) a (earlier period w a)) (listFrom (length w) b (later period w b))) one-less ∙ c .2
-          ∙ ap₂ (λ (p : ℕ) (q : List ℕ). p ∷ nearest (3 - (count + 1)) t (listFrom (length w) a (earlier period w a)) q) (sym (c .1)) (k .next .from-place (c .0)))
+          let c = later-next (length w) t (3 - (count + 1)) a b (fullBefore period w a) (fullAfter period w b) e (g .earlier-side) l m in
+          taken (ap (λ (j : ℕ). nearest j t (listFrom (length w) a (fullBefore period w a)) (listFrom (length w) b (fullAfter period w b))) one-less ∙ c .2
+          ∙ ap₂ (λ (p : ℕ) (q : List ℕ). p ∷ nearest (3 - (count + 1)) t (listFrom (length w) a (fullBefore period w a)) q) (sym (c .1)) (k .next .from-place (c .0)))
           more y (g .earlier-side) (λ i. omega (arith, k .side i, g .later-side (c .0)))

@@ -19,9 +19,9 @@ use Rattle.integers.proofs.SizeLaws.{w+, w≤}
 use Rattle.integers.proofs.Signed64.{Reads, i+, i-in, i-kept}
 use Rattle.refusals.specs.Limits.{fullWeight}
 use Rattle.filters.specs.Contracts.{largest}
-use Rattle.replacing.specs.Neighbours.{earlier, later, nearest, neighbours}
+use Rattle.replacing.specs.Neighbours.{fullBefore, fullAfter, nearest, neighbours}
 use Rattle.replacing.specs.Replaced.{sumAt, isReplaced, countedSum, counted, replacedAt}
-use Rattle.replacing.specs.Contracts.{Next, Back, Ahead, Summed}
+use Rattle.replacing.specs.Contracts.{Next, Back, Ahead, SumAndNumber}
 use Rattle.replacing.proofs.WalkLaws.{list-some, list-none}
 use Rattle.replacing.proofs.ReplacedLaws.{neighbours-most}
 
@@ -47,32 +47,32 @@ module _ {n : ℕ} {list : ℕ → List ℕ} {t a c : ℕ} (l : t < n) (g : Next
 
 -- ---- three, or two on each side
 module _ (period : ℕ) (w : List ℕ) (t : ℕ) where
-  three-of : min (length (earlier period w t)) (length (later period w t)) < 2 → nearest 3 t (earlier period w t) (later period w t) ≡ neighbours period w t
+  three-of : min (length (fullBefore period w t)) (length (fullAfter period w t)) < 2 → nearest 3 t (fullBefore period w t) (fullAfter period w t) ≡ neighbours period w t
   unfolding neighbours
-  three-of h = simp (lt-ltb (min (length (earlier period w t)) (length (later period w t))) 2 h)
+  three-of h = simp (lt-ltb (min (length (fullBefore period w t)) (length (fullAfter period w t))) 2 h)
 
-  four-of : {a b c d : ℕ} (es ls : List ℕ) → earlier period w t ≡ a ∷ c ∷ es → later period w t ≡ b ∷ d ∷ ls → a ∷ c ∷ b ∷ d ∷ [] ≡ neighbours period w t
+  four-of : {a b c d : ℕ} (es ls : List ℕ) → fullBefore period w t ≡ a ∷ c ∷ es → fullAfter period w t ≡ b ∷ d ∷ ls → a ∷ c ∷ b ∷ d ∷ [] ≡ neighbours period w t
   unfolding neighbours
   four-of {a} {b} {c} {d} es ls e f = rw (e, f) (simp (le-ltb (min (length (a ∷ c ∷ es)) (length (b ∷ d ∷ ls))) 2 (omega arith)))
 
 module _ {period : ℕ} {w : List ℕ} {t : ℕ} where
-  pub three-by-earlier : {a c : ℕ} → t < length w → Back period w t a → Back period w a c → length w ≤ c → nearest 3 t (earlier period w t) (later period w t) ≡ neighbours period w t
+  pub three-by-earlier : {a c : ℕ} → t < length w → Back period w t a → Back period w a c → length w ≤ c → nearest 3 t (fullBefore period w t) (fullAfter period w t) ≡ neighbours period w t
   three-by-earlier l g h k = three-of period w t (omega (arith, few-next l (g .next) (h .next) k))
 
-  pub three-by-later : {b d : ℕ} → t < length w → Ahead period w t b → Ahead period w b d → length w ≤ d → nearest 3 t (earlier period w t) (later period w t) ≡ neighbours period w t
+  pub three-by-later : {b d : ℕ} → t < length w → Ahead period w t b → Ahead period w b d → length w ≤ d → nearest 3 t (fullBefore period w t) (fullAfter period w t) ≡ neighbours period w t
   three-by-later l g h k = three-of period w t (omega (arith, few-next l (g .next) (h .next) k))
 
   pub four-summed : {x : List ℤ} {a b c d : ℕ} → t < length w → Back period w t a → Back period w a c → c < length w → Ahead period w t b → Ahead period w b d → d < length w
-      → Summed x (neighbours period w t) ((x ‼ a) +ℤ (x ‼ c) +ℤ (x ‼ b) +ℤ (x ‼ d)) 4
+      → SumAndNumber x (neighbours period w t) ((x ‼ a) +ℤ (x ‼ c) +ℤ (x ‼ b) +ℤ (x ‼ d)) 4
   unfolding sumAt
   four-summed {x} {a} {b} {c} {d} l g h k g′ h′ k′ =
-      let e = four-of period w t (earlier period w c) (later period w d) (two-next l (g .next) (h .next) k) (two-next l (g′ .next) (h′ .next) k′) in
+      let e = four-of period w t (fullBefore period w c) (fullAfter period w d) (two-next l (g .next) (h .next) k) (two-next l (g′ .next) (h′ .next) k′) in
       record { sum-is = in-turn (x ‼ a) (x ‼ c) (x ‼ b) (x ‼ d) ∙ ap (sumAt x) e; count-is = ap length e }
     where
       in-turn : (p q r s : ℤ) → p +ℤ q +ℤ r +ℤ s ≡ p +ℤ (q +ℤ (r +ℤ (s +ℤ pos 0)))
       in-turn p q r s = rw (rep p, rep q, rep r, rep s) (simp ringℤ (omega arith))
 
-pub summed-as : {x : List ℤ} {ps all : List ℕ} {s : ℤ} {count : ℕ} → Summed x ps s count → ps ≡ all → Summed x all s count
+pub summed-as : {x : List ℤ} {ps all : List ℕ} {s : ℤ} {count : ℕ} → SumAndNumber x ps s count → ps ≡ all → SumAndNumber x all s count
 summed-as {x} g e = record { sum-is = g .sum-is ∙ ap (sumAt x) e; count-is = g .count-is ∙ ap length e }
 
 -- ---- as the code adds four values: each sum is held as bits
@@ -100,7 +100,7 @@ module _ (period : ℕ) (w : List ℕ) (x : List ℤ) (t : ℕ) where
   unfolding replacedAt isReplaced
   full-stays h = simp (le-ltb (getD w t 0) fullWeight h)
 
-  module _ {s : ℤ} {count : ℕ} (g : Summed x (neighbours period w t) s count) where
+  module _ {s : ℤ} {count : ℕ} (g : SumAndNumber x (neighbours period w t) s count) where
     pub alone-stays : count ≡ 0 → x ‼ t ≡ replacedAt period w x t
     unfolding replacedAt isReplaced
     alone-stays k = let n : length (neighbours period w t) ≤ 0 = omega (arith, g .count-is) in

@@ -14,6 +14,7 @@ use Rattle.integers.specs.Lists.{_‼_, AllWithin}
 use Rattle.integers.specs.Rounding.{toGrain}
 use Rattle.integers.specs.Sums.{sumZ, wsum}
 use Rattle.integers.proofs.Differences.{rep, ringℤ}
+use Rattle.integers.proofs.SumLaws.{sum-front}
 use Rattle.integers.proofs.FillingLaws.{length-tab, tab-within}
 use Rattle.refusals.specs.Limits.{fullWeight}
 use Rattle.series.specs.Distance.{Close}
@@ -21,7 +22,7 @@ use Rattle.series.proofs.Lengths.{at-times}
 use Rattle.series.proofs.Distances.{close-tab, close-times, looser}
 use Rattle.rows.proofs.RowTests.{left, right}
 use Rattle.rows.proofs.Means.{Mean}
-use Rattle.replacing.specs.Neighbours.{earlier, later, nearest, neighbours}
+use Rattle.replacing.specs.Neighbours.{fullBefore, fullAfter, nearest, neighbours}
 use Rattle.replacing.specs.Replaced.{sumAt, product, common, isReplaced, countedSum, counted, replacedAt, replacedBy, exactReplacedAt, exactReplacedBy}
 use Rattle.replacing.proofs.WeightedMeans.{within-mean, close-mean}
 
@@ -64,21 +65,16 @@ nearest-most (suc k) t (p ∷ es) (q ∷ ls) = go (nearest k t es (q ∷ ls)) (n
 
 pub neighbours-most : (period : ℕ) (w : List ℕ) (t : ℕ) → length (neighbours period w t) ≤ 4
 unfolding neighbours
-neighbours-most period w t = go (ltb (min (length (earlier period w t)) (length (later period w t))) 2)
+neighbours-most period w t = go (ltb (min (length (fullBefore period w t)) (length (fullAfter period w t))) 2)
   where
-    go : (c : Bool) → length (cond c (nearest 3 t (earlier period w t) (later period w t)) (take 2 (earlier period w t) ++ take 2 (later period w t))) ≤ 4
-    go true = omega (arith, nearest-most 3 t (earlier period w t) (later period w t))
+    go : (c : Bool) → length (cond c (nearest 3 t (fullBefore period w t) (fullAfter period w t)) (take 2 (fullBefore period w t) ++ take 2 (fullAfter period w t))) ≤ 4
+    go true = omega (arith, nearest-most 3 t (fullBefore period w t) (fullAfter period w t))
     go false = simp (length-append, length-take) (omega arith)
 
 -- ---- the counted sum as a weighted sum: the value itself, then each neighbour
 abbrev countOf : ℕ → ℕ → ℤ
 countOf own zero = pos own
 countOf own (suc j) = pos fullWeight
-
-sum-front : (n : ℕ) (f : ℕ → ℤ) → sumZ (suc n) f ≡ f 0 +ℤ sumZ n (λ j. f (suc j))
-unfolding sumZ
-sum-front zero f = rw (rep (f 0)) (simp ringℤ (omega arith))
-sum-front (suc n) f = rw (sum-front n f) (rw (rep (f 0), rep (sumZ n (λ j. f (suc j))), rep (f (suc n))) (simp ringℤ (omega arith)))
 
 neighbours-sum : (c : ℕ) (x : List ℤ) (ps : List ℕ) → wsum (length ps) (λ _. pos c) (λ j. x ‼ getD ps j 0) ≡ pos c *ℤ sumAt x ps
 unfolding sumZ sumAt

@@ -9,7 +9,7 @@ use lib.ListN.{length, getD}
 use borrow.Author.Tests.{lt-ltb, le-ltb, eq-eqb, ne-eqb}
 use Rattle.integers.specs.Lists.{tabFrom, tab}
 use Rattle.refusals.specs.Limits.{fullWeight}
-use Rattle.replacing.specs.Neighbours.{ofFullWeight, runBefore, runAfter, earlier, later}
+use Rattle.replacing.specs.Neighbours.{ofFullWeight, runBefore, runAfter, fullBefore, fullAfter}
 use Rattle.replacing.specs.Contracts.{listFrom, Next, Back, Ahead}
 
 -- ---- the first place of a list, and none
@@ -60,11 +60,11 @@ no-place w = refl
 
 -- ---- the walk from t to p so far, past no place of weight 1,000
 pub record GoneBack (period : ℕ) (w : List ℕ) (t p : ℕ) : Type 0 where
-  pub same : earlier period w t ≡ earlier period w p
+  pub same : fullBefore period w t ≡ fullBefore period w p
   pub order : p ≤ t
 
 pub record GoneAhead (period : ℕ) (w : List ℕ) (t p : ℕ) : Type 0 where
-  pub same : later period w t ≡ later period w p
+  pub same : fullAfter period w t ≡ fullAfter period w p
   pub order : t ≤ p
   pub inside : p < length w
 
@@ -108,27 +108,27 @@ module _ {period : ℕ} (some : 0 < period) where
   -- ---- the walk back, from t to p so far
   module _ {w : List ℕ} {t p : ℕ} (g : GoneBack period w t p) where
     pub back-more : period ≤ p → (getD w (p - period) 0 ≡ fullWeight → ⊥) → GoneBack period w t (p - period)
-    unfolding earlier
+    unfolding fullBefore
     back-more h k = record {
       same = g .same ∙ ap (ofFullWeight w) (before-step p h) ∙ other-weight w (p - period) (runBefore period (p - period)) k;
       order = omega (arith, g .order);
     }
 
     pub back-found : t < length w → period ≤ p → getD w (p - period) 0 ≡ fullWeight → Back period w t (p - period)
-    unfolding earlier
+    unfolding fullBefore
     back-found l h k = record {
       next = next-found l (omega (arith, g .order)) (g .same ∙ ap (ofFullWeight w) (before-step p h) ∙ full-weight w (p - period) (runBefore period (p - period)) k);
       side = λ _. omega (arith, g .order);
     }
 
     pub back-none : t < length w → p < period → Back period w t (length w)
-    unfolding earlier
+    unfolding fullBefore
     back-none l h = record { next = next-none l (g .same ∙ ap (ofFullWeight w) (before-end p h) ∙ no-place w); side = λ i. absurd (omega arith) }
 
   -- ---- the walk ahead
   module _ {w : List ℕ} {t p : ℕ} (g : GoneAhead period w t p) where
     pub ahead-more : p + period < length w → (getD w (p + period) 0 ≡ fullWeight → ⊥) → GoneAhead period w t (p + period)
-    unfolding later
+    unfolding fullAfter
     ahead-more h k = record {
       same = g .same ∙ ap (ofFullWeight w) (after-step (length w) p h) ∙ other-weight w (p + period) (runAfter period (length w) (p + period)) k;
       order = omega (arith, g .order);
@@ -136,14 +136,14 @@ module _ {period : ℕ} (some : 0 < period) where
     }
 
     pub ahead-found : p + period < length w → getD w (p + period) 0 ≡ fullWeight → Ahead period w t (p + period)
-    unfolding later
+    unfolding fullAfter
     ahead-found h k = record {
       next = next-found (omega (arith, g .order)) h (g .same ∙ ap (ofFullWeight w) (after-step (length w) p h) ∙ full-weight w (p + period) (runAfter period (length w) (p + period)) k);
       side = λ _. omega (arith, g .order);
     }
 
     pub ahead-none : length w ≤ p + period → Ahead period w t (length w)
-    unfolding later
+    unfolding fullAfter
     ahead-none h = record {
       next = next-none (omega (arith, g .order, g .inside)) (g .same ∙ ap (ofFullWeight w) (after-end (length w) p (g .inside) h) ∙ no-place w);
       side = λ i. absurd (omega arith);

@@ -7,11 +7,11 @@ use lib.Dec.{ltb, leb}
 use lib.ListN.{length}
 use lib.IntN.{ℤ}
 use Rattle.filters.specs.Contracts.{Filterable}
-use Rattle.replacing.specs.Neighbours.{earlier, later}
+use Rattle.replacing.specs.Neighbours.{fullBefore, fullAfter}
 use Rattle.replacing.specs.Replaced.{sumAt}
 
 -- the values and the weights of a table, and a place of it
-pub record Weighed (x : List ℤ) (w : List ℕ) (t : ℕ) : Type 0 where
+pub record PlaceWeighed (x : List ℤ) (w : List ℕ) (t : ℕ) : Type 0 where
   pub filterable : Filterable x
   pub long : length w ≡ length x
   pub place : t < length x
@@ -27,12 +27,12 @@ pub record Next (n : ℕ) (list : ℕ → List ℕ) (p r : ℕ) : Type 0 where
 
 -- r is the nearest place of weight 1,000 before p in its run ..
 pub record Back (period : ℕ) (w : List ℕ) (p r : ℕ) : Type 0 where
-  pub next : Next (length w) (earlier period w) p r
+  pub next : Next (length w) (fullBefore period w) p r
   pub side : r < length w → r < p
 
 -- .. and after p
 pub record Ahead (period : ℕ) (w : List ℕ) (p r : ℕ) : Type 0 where
-  pub next : Next (length w) (later period w) p r
+  pub next : Next (length w) (fullAfter period w) p r
   pub side : r < length w → p < r
 
 -- of an earlier place a and a later place b the nearer to t, and the earlier if they are equally near; the other if one is n
@@ -40,6 +40,6 @@ unfoldable pub nearer : ℕ → ℕ → ℕ → ℕ → ℕ
 nearer n t a b = cond (ltb a n) (cond (ltb b n) (cond (leb (t - a) (b - t)) a b) a) b
 
 -- the sum and the number of the values at some places
-pub record Summed (x : List ℤ) (ps : List ℕ) (sum : ℤ) (count : ℕ) : Type 0 where
+pub record SumAndNumber (x : List ℤ) (ps : List ℕ) (sum : ℤ) (count : ℕ) : Type 0 where
   pub sum-is : sum ≡ sumAt x ps
   pub count-is : count ≡ length ps

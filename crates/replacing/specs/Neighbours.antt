@@ -30,15 +30,15 @@ module _ (period : ℕ) where
   runAfter n t = tab ((n - 1 - t) / period) (λ i. t + (i + 1) * period)
 
   -- METHOD 3.9: those of weight 1,000, nearest first
-  unfoldable pub earlier : List ℕ → ℕ → List ℕ
-  earlier w t = ofFullWeight w (runBefore t)
+  unfoldable pub fullBefore : List ℕ → ℕ → List ℕ
+  fullBefore w t = ofFullWeight w (runBefore t)
 
-  unfoldable pub later : List ℕ → ℕ → List ℕ
-  later w t = ofFullWeight w (runAfter (length w) t)
+  unfoldable pub fullAfter : List ℕ → ℕ → List ℕ
+  fullAfter w t = ofFullWeight w (runAfter (length w) t)
 
   -- METHOD 3.9: the neighbours of the value at t: the two nearest on each side, or, if one side has fewer than two, the three nearest of both
   unfoldable pub neighbours : List ℕ → ℕ → List ℕ
   neighbours w t =
-      cond (ltb (min (length (earlier w t)) (length (later w t))) 2)
-      (nearest 3 t (earlier w t) (later w t))
-      (take 2 (earlier w t) ++ take 2 (later w t))
+      cond (ltb (min (length (fullBefore w t)) (length (fullAfter w t))) 2)
+      (nearest 3 t (fullBefore w t) (fullAfter w t))
+      (take 2 (fullBefore w t) ++ take 2 (fullAfter w t))

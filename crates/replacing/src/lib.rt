@@ -7,9 +7,9 @@ ghost use Rattle.integers.specs.Sizes.{_within_};
 ghost use Rattle.integers.specs.Rounding.{toGrain};
 ghost use Rattle.refusals.specs.Limits.{mostMonths, monthsOfYear, fullWeight};
 ghost use Rattle.filters.specs.Contracts.{largest, Filterable};
-ghost use Rattle.replacing.specs.Neighbours.{earlier, later, nearest, neighbours};
+ghost use Rattle.replacing.specs.Neighbours.{fullBefore, fullAfter, nearest, neighbours};
 ghost use Rattle.replacing.specs.Replaced.{replacedAt, replacedBy};
-ghost use Rattle.replacing.specs.Contracts.{Weighed, Back, Ahead, nearer, Summed};
+ghost use Rattle.replacing.specs.Contracts.{PlaceWeighed, Back, Ahead, nearer, SumAndNumber};
 
 // The nearest place of weight 1,000 before p in its run; w.len(), which is no place, if there is none or p is no place.
 fn back(w: &[u16], p: usize) -> usize
@@ -69,8 +69,8 @@ struct SumAndCount {
 
 // METHOD 3.9: the three values of weight 1,000 nearest to place t, or all there are. `preceding` and `following` are the first place on each side.
 fn nearest_three(x: &[i64], w: &[u16], t: usize, preceding: usize, following: usize) -> SumAndCount
-    requires { ⌜ Weighed (now x) (now w) t × Back monthsOfYear (now w) t preceding × Ahead monthsOfYear (now w) t following ⌝ }
-    ensures { λ r. ⌜ Summed (now (x .entry)) (nearest 3 t (earlier monthsOfYear (now (w .entry)) t) (later monthsOfYear (now (w .entry)) t))
+    requires { ⌜ PlaceWeighed (now x) (now w) t × Back monthsOfYear (now w) t preceding × Ahead monthsOfYear (now w) t following ⌝ }
+    ensures { λ r. ⌜ SumAndNumber (now (x .entry)) (nearest 3 t (fullBefore monthsOfYear (now (w .entry)) t) (fullAfter monthsOfYear (now (w .entry)) t))
         (r .sum) (r .count) ⌝ }
 {
     let n = w.len();
@@ -102,8 +102,8 @@ fn nearest_three(x: &[i64], w: &[u16], t: usize, preceding: usize, following: us
 
 // METHOD 3.9: the neighbours of place t, two on each side; or the three nearest, if one side has fewer than two.
 fn neighbours(x: &[i64], w: &[u16], t: usize) -> SumAndCount
-    requires { ⌜ Weighed (now x) (now w) t ⌝ }
-    ensures { λ r. ⌜ Summed (now (x .entry)) (neighbours monthsOfYear (now (w .entry)) t) (r .sum) (r .count) ⌝ }
+    requires { ⌜ PlaceWeighed (now x) (now w) t ⌝ }
+    ensures { λ r. ⌜ SumAndNumber (now (x .entry)) (neighbours monthsOfYear (now (w .entry)) t) (r .sum) (r .count) ⌝ }
 {
     let a = back(w, t);
     let b = ahead(w, t);
@@ -133,7 +133,7 @@ fn weighted_mean(own: u16, value: i64, sum: i64, count: usize) -> i64
 
 // METHOD 3.9: the value of place t, replaced if its weight is below 1,000 and it has a neighbour.
 fn replaced_at(x: &[i64], w: &[u16], t: usize) -> i64
-    requires { ⌜ Weighed (now x) (now w) t ⌝ }
+    requires { ⌜ PlaceWeighed (now x) (now w) t ⌝ }
     ensures { λ r. ⌜ r ≡ replacedAt monthsOfYear (now (w .entry)) (now (x .entry)) t ⌝ }
 {
     let own = w[t];

@@ -108,5 +108,5 @@ module _ {c : Choices} (ok : Sound c) (x : List ℤ) (d : ℕ) (enough : 26 * ad
   pub own-s2 : Close (2 * d + 2 * added (c .replacing2) + 1500) (overS2 c) (S2 c x) (exactS2 c x)
   own-s2 = looser (s2 ok (close-self x) d (omega arith)) (omega arith) (omega arith)
 
-  pub near : (g h : ℕ) → d ≤ 1000 * g → 2 * d + 2 * added (c .replacing2) + 1500 ≤ 1000 * h → Near c g h x
+  pub near : (g h : ℕ) → d ≤ 1000 * g → 2 * d + 2 * added (c .replacing2) + 1500 ≤ 1000 * h → Near c g h x (T2 c x) (S2 c x)
   near g h i j = record { trend = grains g i own-t2; seasonal = grains h j own-s2 }

@@ -12,14 +12,13 @@ use Rattle.series.specs.Operations.{minus}
 use Rattle.series.specs.Distance.{Close}
 use Rattle.series.proofs.Distances.{close-self, close-times, close-minus, close-less}
 use Rattle.series.proofs.Lengths.{length-minus, at-minus}
-use Rattle.steps.specs.Choices.{plainMonthly}
 use Rattle.steps.specs.Steps.{S2}
 use Rattle.steps.specs.Exact.{overS2, exactS2}
 use Rattle.steps.proofs.Sound.{monthly-sound, plain-sound}
 use Rattle.steps.proofs.Distances.{near, own-s2, close-norm}
-use Rattle.tables.specs.Tables.{choicesD, finalTrend, B1, C1, D1, D10, D11, D12, D13}
+use Rattle.tables.specs.Tables.{choicesD, finalTrend, B1, B7, B10, C1, C7, C10, D1, D10, D11, D12, D13}
 use Rattle.tables.specs.Exact.{overE, E10, E11, E12, E13}
-use Rattle.tables.specs.Nearness.{PassNear, PassesNear, NearAt}
+use Rattle.tables.specs.Nearness.{PassesNear, NearAt}
 use Rattle.tables.proofs.Sizes.{length-b1}
 
 -- how far T2, S2, D12 and D13 are, in thousandths of a grain; B7 and B10 below
@@ -40,14 +39,12 @@ abbrev farB7 : ℕ
 farB7 = 5050
 
 pub passes-near : (start : ℕ) (f : List ℤ) → PassesNear start f
+unfolding B7 B10 C7 C10 D10
 passes-near start f = record {
   pass-b = near (monthly-sound _ _) (B1 start f) farB7 (omega arith) _ _ (omega arith) (omega arith);
-  pass-c = plain (C1 start f);
-  pass-d = plain (D1 start f);
+  pass-c = near plain-sound (C1 start f) farT2 (omega arith) _ _ (omega arith) (omega arith);
+  pass-d = near plain-sound (D1 start f) farT2 (omega arith) _ _ (omega arith) (omega arith);
 }
-  where
-    plain : (x : List ℤ) → PassNear plainMonthly x
-    plain x = near plain-sound x farT2 (omega arith) _ _ (omega arith) (omega arith)
 
 -- seasonal, trend and irregular are the series
 adds : (b1 s t : List ℤ) (i : ℕ) → i < length b1 → (s ‼ i) +ℤ (t ‼ i) +ℤ (minus (minus b1 s) t ‼ i) ≡ b1 ‼ i

@@ -4,3 +4,4 @@ pub mod Tables
 pub mod Exact
 pub mod Nearness
 pub mod Bounds
+pub mod Examples

@@ -5,22 +5,18 @@ use Prim.Native.Nat.{ℕ}
 use lib.IntN.{ℤ, _+ℤ_}
 use Rattle.integers.specs.Lists.{_‼_}
 use Rattle.series.specs.Distance.{AtMostApart}
-use Rattle.steps.specs.Choices.{Choices}
+use Rattle.steps.specs.Steps.{T2}
 use Rattle.steps.specs.Near.{Near}
 use Rattle.tables.specs.PassB.{choicesB}
-use Rattle.tables.specs.Tables.{choicesC, choicesD, B1, C1, D1}
+use Rattle.tables.specs.Tables.{choicesC, choicesD, B1, B7, B10, C1, C7, C10, D1, D10}
 use Rattle.tables.specs.Exact.{overE, E10, E11, E12, E13}
 
--- METHOD 6.3, of pass C or D by its choices, on the X that it is given: T2 lies within 4 grains of the exact T2, and S2 within 10 of the exact S2
-abbrev pub PassNear : Choices → List ℤ → Type 0
-PassNear c x = Near c 4 10 x
-
--- METHOD 6.3, of each pass on its X, which is B1, C1 or D1. In pass B, where the exact working replaces the same values by the same weights and neighbours
--- (they stand in its choices), T2 lies within 6 grains of the exact T2, and S2 within 13 of the exact S2
+-- METHOD 6.3, of each pass on its X. In pass B the exact working replaces the same values by the same weights and neighbours (they stand in its choices):
+-- B7 lies within 6 grains of the exact T2, and B10 within 13 of the exact S2. In passes C and D T2 (C7) lies within 4, and S2 (C10, D10) within 10
 pub record PassesNear (start : ℕ) (figures : List ℤ) : Type 0 where
-  pub pass-b : Near (choicesB start (B1 start figures)) 6 13 (B1 start figures)
-  pub pass-c : PassNear choicesC (C1 start figures)
-  pub pass-d : PassNear choicesD (D1 start figures)
+  pub pass-b : Near (choicesB start (B1 start figures)) 6 13 (B1 start figures) (B7 start figures) (B10 start figures)
+  pub pass-c : Near choicesC 4 10 (C1 start figures) (C7 start figures) (C10 start figures)
+  pub pass-d : Near choicesD 4 10 (D1 start figures) (T2 choicesD (D1 start figures)) (D10 start figures)
 
 -- METHOD 6.4 and 10.3, at month t, of the tables as the caller gets them: D10 from E10 and D11 from E11 at most 10 grains, D12 from E12 at most 14,
 -- D13 from E13 at most 24; and D10, D12 and D13 sum to B1

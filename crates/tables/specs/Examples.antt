@@ -1,0 +1,31 @@
+-- METHOD 4.4: a flooded January, worked through pass B (shown in proofs/Examples.antt). The numbers come from the separately written program of the tests.
+use mathlib.Core.Path.{_≡_}
+use mathlib.Core.Bool.{cond}
+use mathlib.Core.List.{List, [], _∷_}
+use Prim.Native.Nat.{ℕ, _+_, _*_, _%_}
+use lib.Dec.{eqb}
+use lib.ListN.{getD}
+use lib.IntN.{ℤ, pos, negℤ}
+use Rattle.integers.specs.Lists.{tab}
+use Rattle.refusals.specs.Limits.{monthsOfYear}
+use Rattle.steps.specs.Choices.{plainMonthly}
+use Rattle.steps.specs.Steps.{S2}
+use Rattle.tables.specs.PassB.{weightsB4, weightsB9}
+use Rattle.tables.specs.Tables.{B1, B10}
+
+-- METHOD 4.4: 72 figures from start month 7, each 1,000 and what is left of t times t divided by 17; but 500 at t = 18, the second January
+unfoldable pub flooded : List ℤ
+flooded = tab 72 (λ t. cond (eqb t 18) (pos 500) (pos (1000 + t * t % 17)))
+
+-- of a list, place `first` and those whole years later, so many
+abbrev pub yearByYear : {A : Type 0} → A → ℕ → ℕ → List A → List A
+yearByYear d first count l = tab count (λ i. getD l (first + monthsOfYear * i) d)
+
+-- METHOD 4.4: what the Januaries get, t = 6, 18, .., 66; SI1 has the first five of them, from its place 0 on
+pub record FloodedJanuary : Type 0 where
+  pub weights-si1 : yearByYear 0 0 5 (weightsB4 7 (B1 7 flooded)) ≡ 0 ∷ 0 ∷ 0 ∷ 0 ∷ 1000 ∷ []
+  pub weights-si2 : yearByYear 0 6 6 (weightsB9 7 (B1 7 flooded)) ≡ 0 ∷ 0 ∷ 0 ∷ 24 ∷ 1000 ∷ 1000 ∷ []
+  pub seasonal : yearByYear (pos 0) 6 6 (B10 7 flooded) ≡ negℤ (pos 718) ∷ negℤ (pos 425) ∷ negℤ (pos 184) ∷ pos 378 ∷ pos 665 ∷ pos 1101 ∷ []
+  -- were no value replaced, the flood would colour all of them
+  pub unreplaced : yearByYear (pos 0) 6 6 (S2 plainMonthly (B1 7 flooded))
+      ≡ negℤ (pos 133362) ∷ negℤ (pos 117774) ∷ negℤ (pos 99436) ∷ negℤ (pos 61201) ∷ negℤ (pos 30695) ∷ negℤ (pos 2958) ∷ []
