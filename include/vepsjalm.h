@@ -2,8 +2,9 @@
    `rt staticlib vepsjalm` in the repository's folder writes the library, target/staticlib/libvepsjalm.a, for x86-64 Linux; beside it only the
    C library is needed. examples/decompose.c is a whole caller of reading and decomposing, examples/final-weights.c of writing too.
 
-   The filters are fixed: 2x12, 3x3, 3x5 and 13-term Henderson with Musgrave's ends. No multiplicative working, calendar effects, forecasts
-   or choice of filter length.
+   The filters are fixed: 2x12, 3x3, 3x5 and 13-term Henderson with Musgrave's ends. Extreme months are found by the library itself; in its
+   first pass their values are replaced by means of their neighbours (docs/METHOD.md, 3.8). No multiplicative working, calendar effects,
+   forecasts or choice of filter length.
 
    For all three functions:
 
@@ -26,9 +27,9 @@
 /* The version of this header and of the library that goes with it (the library does not tell its own), major.minor.patch. The minor number
    goes up with every landing that changes what callers see, the patch number with every other; the major number is 0 while functions and
    constants may still change. */
-#define VEPSJALM_VERSION "0.10.0"
+#define VEPSJALM_VERSION "0.11.0"
 #define VEPSJALM_VERSION_MAJOR 0
-#define VEPSJALM_VERSION_MINOR 10
+#define VEPSJALM_VERSION_MINOR 11
 #define VEPSJALM_VERSION_PATCH 0
 
 /* The limits. */

@@ -13,7 +13,7 @@ use Rattle.series.proofs.Lengths.{length-minus, length-times}
 use Rattle.series.proofs.Largest.{within-minus, within-times}
 use Rattle.steps.specs.Choices.{Choices, plainMonthly}
 use Rattle.steps.specs.Steps.{SI1, innerS1, T2, SI2, S2}
-use Rattle.steps.proofs.Sound.{Sound, monthly-sound, plain-sound}
+use Rattle.steps.proofs.Sound.{Sound, monthly-sound}
 use Rattle.steps.proofs.Largest as pass
 use Rattle.steps.proofs.Lengths.{length-si1, length-si2}
 use Rattle.extremes.specs.Weighing.{correctionOf}
@@ -83,4 +83,4 @@ module _ (start : ℕ) {f : List ℤ} (h : AllWithin largestFigure f) where
 
   pub within-d1 : AllWithin largestD1 (D1 start f)
   unfolding D1 C20 C13 C10 C7
-  within-d1 = within-corrected plain-sound within-c1 largestC7 (omega arith) _
+  within-d1 = within-corrected (monthly-sound _ _) within-c1 largestC7 (omega arith) _
