@@ -1,8 +1,11 @@
-//! What the documents show, beside the separately written program and the repository: README's sample, METHOD's rows, the wrong programs
-//! that CONTRACTS names.
+//! What the documents show, beside the separately written program and the repository: README's sample, METHOD's rows, the runs of its part 3.9
+//! and its flooded January, the wrong programs that CONTRACTS names.
 
+use separate::decompose::decompose_fitting;
 use separate::desk::bytes_of;
+use separate::extremes::{neighbours, RunValue};
 use separate::generators::book_series;
+use separate::pass::pass;
 use separate::print::printed;
 use separate::rows::{henderson_centre, musgrave_millionths, three_by_five, three_by_three};
 use std::fs;
@@ -54,6 +57,47 @@ fn method_has_every_row() {
     assert_eq!(numbers(centre.lines().nth(2).expect("the row")), henderson_centre());
     let ends: Vec<Vec<i128>> = (0..6).rev().map(|f| [&[f as i128], musgrave_millionths(f)].concat()).collect();
     assert_eq!(rows(&part("2.6", "2.7")), ends);
+}
+
+/// The row of a table in Markdown whose first cell begins with a word: its other cells.
+fn cells<'a>(text: &'a str, word: &str) -> Vec<&'a str> {
+    let row = text.lines().find(|line| line.starts_with(&format!("| {word} "))).unwrap_or_else(|| panic!("{word}"));
+    row.trim_matches('|').split('|').skip(1).map(str::trim).collect()
+}
+
+#[test]
+fn method_has_the_neighbours_of_its_runs() {
+    let method = document("docs/METHOD.md");
+    let table = between(&method, "| weights of a run, year 0 first |", "\n\n");
+    let rows: Vec<Vec<&str>> = table.lines().skip(2).map(|line| line.trim_matches('|').split('|').map(str::trim).collect()).collect();
+    assert_eq!(rows.len(), 4);
+    for row in rows {
+        let weights = numbers(row[0]);
+        let run: Vec<RunValue> = weights.iter().enumerate().map(|(year, &w)| RunValue { year, value: 0, weight: w as u16 }).collect();
+        let mut named: Vec<usize> = numbers(row[2]).iter().map(|&year| year as usize).collect();
+        named.sort();
+        assert_eq!(neighbours(&run, numbers(row[1])[0] as usize), named, "{row:?}");
+    }
+}
+
+#[test]
+fn method_has_the_flooded_january() {
+    let method = document("docs/METHOD.md");
+    let part = between(&method, "**4.4 ", "## 5");
+    let figures: Vec<i32> = (0..72).map(|t| if t == 18 { 500 } else { 1000 + t * t % 17 }).collect();
+    let tables = decompose_fitting(&figures, 7).expect("tables");
+    let months: Vec<usize> = cells(part, "t").iter().map(|t| t.parse().expect("a month")).collect();
+    assert_eq!(months, [6, 18, 30, 42, 54, 66]);
+    let shown = |word: &str| -> Vec<i64> { cells(part, word).iter().filter_map(|cell| cell.parse().ok()).collect() };
+    let of_five = |f: &dyn Fn(usize) -> i64| -> Vec<i64> { months[..5].iter().map(|&t| f(t)).collect() };
+    let of_six = |f: &dyn Fn(usize) -> i64| -> Vec<i64> { months.iter().map(|&t| f(t)).collect() };
+    assert_eq!(shown("weight of SI1"), of_five(&|t| i64::from(tables.b4.weight_at(t))));
+    assert_eq!(shown("SI1 replaced"), of_five(&|t| tables.b4.replaced.values[t - 6]));
+    assert_eq!(shown("weight of SI2"), of_six(&|t| i64::from(tables.b9.weight_at(t))));
+    assert_eq!(shown("SI2 replaced"), of_six(&|t| tables.b9.replaced.values[t]));
+    assert_eq!(shown("B10"), of_six(&|t| tables.b10[t]));
+    let plain = pass(&tables.b1).s2.values;
+    assert_eq!(shown("S2, were no value replaced"), of_six(&|t| plain[t]));
 }
 
 /// The edits of a crate's must-fail folder: crate/label, and whether a rule is edited.
