@@ -1,7 +1,7 @@
 -- What each call of a pass leaves is the next table of the rules, and is what the next call asks, whatever the pass chooses.
 use mathlib.Core.Path.{_≡_, _∙_}
 use mathlib.Core.List.{List}
-use Prim.Native.Nat.{ℕ, _+_, _*_, _-_, _≤_}
+use Prim.Native.Nat.{_-_, _≤_}
 use native.Mathlib.Omega.{arith}
 use lib.ListN.{length, take, drop}
 use lib.IntN.{ℤ}
@@ -17,7 +17,7 @@ use Rattle.rows.specs.FilterTables.{table2x12}
 use Rattle.steps.specs.Choices.{MovingAverage, average2x12, replaced, Choices}
 use Rattle.steps.specs.Steps.{level, T1, SI1, R1, M1, innerS1, S1, A1, T2, SI2, R2, M2, S2}
 use Rattle.steps.specs.Places.{widened}
-use Rattle.pass.specs.Contracts.{largestT2, withoutLevel, PassSeries, Levels, OfSI1, OfSI2, Adjustable}
+use Rattle.pass.specs.Contracts.{largestT2, withoutLevel, PassSeries, Levels, Adjustable}
 use Rattle.steps.proofs.Sound.{Norm, Sound, plain-sound}
 use Rattle.pass.proofs.Places.{inner-is}
 use Rattle.steps.proofs.Largest as sizes

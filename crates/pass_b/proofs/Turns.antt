@@ -1,7 +1,7 @@
 -- What each call of pass B leaves is the next table of the rules, and is what the next call asks: SI1 is weighed and replaced, then SI2.
 use mathlib.Core.Path.{_≡_, refl, sym, ap, ap₂, _∙_}
 use mathlib.Core.List.{List}
-use Prim.Native.Nat.{ℕ, _+_, _*_, _-_}
+use Prim.Native.Nat.{ℕ, _*_, _-_}
 use native.Mathlib.Omega.{arith}
 use lib.ListN.{length}
 use lib.IntN.{ℤ, pos, _-ℤ_}
@@ -11,19 +11,19 @@ use Rattle.integers.proofs.FillingLaws.{tab-same}
 use Rattle.refusals.specs.Limits.{monthsOfYear}
 use Rattle.series.specs.Operations.{minus}
 use Rattle.series.specs.Contracts.{Minusable}
-use Rattle.series.proofs.Lengths.{length-minus, length-pick, at-minus}
+use Rattle.series.proofs.Lengths.{length-minus, at-minus}
 use Rattle.series.proofs.Largest.{larger, within-minus, within-pick}
 use Rattle.rows.specs.FilterTables.{table2x12, table3x3, table3x5}
 use Rattle.filters.specs.Filter.{filter}
 use Rattle.filters.specs.Contracts.{Filterable}
 use Rattle.filters.proofs.Lengths.{length-filter}
 use Rattle.replacing.specs.Replaced.{replacedBy}
-use Rattle.steps.specs.Choices.{MovingAverage, average2x12, average3x3, average3x5, Replacing, none, byWeights, monthly, plainMonthly}
-use Rattle.steps.specs.Steps.{level, T1, SI1, R1, M1, innerS1, S1, A1, T2, SI2, S2}
+use Rattle.steps.specs.Choices.{MovingAverage, average2x12, average3x3, average3x5, Replacing, monthly, plainMonthly}
+use Rattle.steps.specs.Steps.{level, T1, SI1, R1, M1, innerS1, S1, A1, T2, SI2}
 use Rattle.steps.proofs.Sound.{Norm, Sound, monthly-sound, plain-sound}
 use Rattle.steps.proofs.Largest as sizes
 use Rattle.steps.proofs.Lengths.{length-si1, length-si2}
-use Rattle.extremes.specs.Contracts.{Weighable}
+use Rattle.extremes.specs.Contracts.{Calendar, Weighable}
 use Rattle.extremes.specs.Weighing.{weightsOf}
 use Rattle.extremes.proofs.YearLaws.{part-calendar}
 use Rattle.pass.specs.Contracts.{withoutLevel, PassSeries}
@@ -53,7 +53,19 @@ taken-twice x t h = sym (tab-same (pos 0) (length x) (λ i. (x ‼ i) -ℤ (minu
     back : (a b : ℤ) → a -ℤ (a -ℤ b) ≡ b
     back a b = rw (rep a, rep b) (simp ringℤ (omega arith))
 
--- ---- weighing: r is the 3×3 or 3×5 of si
+-- ---- weighing: r is the 3×3 or 3×5 of si, n numbers each
+weighs : {start n : ℕ} (f : MovingAverage) → Norm 1000 f → {si r t s : List ℤ} {w : List ℕ} → length si ≡ n → Calendar start monthsOfYear n → AllWithin largestSI si
+    → r ≡ filter (f .table) si → length t ≡ n → length s ≡ n → length w ≡ n → Weighs start si r t s w
+weighs f l {si} e c h i j k m = record {
+  calendar = rw e c;
+  si-small = h;
+  r-small = rw i (sizes.within-norm h f 1000 largestSI l (omega arith));
+  r-long = ap length i ∙ length-filter (f .table) si;
+  t-long = j ∙ sym e;
+  s-long = k ∙ sym e;
+  w-long = m ∙ sym e;
+}
+
 module _ {start : ℕ} {si r t s : List ℤ} {w : List ℕ} (h : Weighs start si r t s w) where
   pub r-filterable : Filterable r
   r-filterable = record { short = omega (arith, h .r-long, h .calendar .most); small = larger (h .r-small) (omega arith) }
@@ -101,15 +113,7 @@ module _ {start : ℕ} {x : List ℤ} (h : PassBSeries start x) where
     si1-small = rw e (larger (sizes.si1 plain-sound (h .small)) (omega arith))
 
     pub weighs1 : {a t s : List ℤ} {w : List ℕ} → a ≡ filter table3x3 b → length t ≡ length x - 12 → length s ≡ length x - 12 → length w ≡ length x - 12 → Weighs (startB4 start) b a t s w
-    weighs1 f i j k = record {
-      calendar = rw si1-long (part-calendar 6 (h .long) (h .short) (h .early) (h .late));
-      si-small = si1-small;
-      r-small = rw f (sizes.within-norm si1-small average3x3 1000 largestSI (plain-sound .seasonal1-norm) (omega arith));
-      r-long = ap length f ∙ length-filter table3x3 b;
-      t-long = i ∙ sym si1-long;
-      s-long = j ∙ sym si1-long;
-      w-long = k ∙ sym si1-long;
-    }
+    weighs1 = weighs average3x3 (plain-sound .seasonal1-norm) si1-long (part-calendar 6 (h .long) (h .short) (h .early) (h .late)) si1-small
 
     pub weights1 : {a : List ℤ} {w : List ℕ} → a ≡ filter table3x3 b → w ≡ weightsOf (startB4 start) monthsOfYear (minus b (withoutLevel 6 table2x12 a)) → w ≡ weightsB4 start x
     unfolding weightsB4 irregularB4
@@ -134,15 +138,7 @@ module _ {start : ℕ} {x : List ℤ} (h : PassBSeries start x) where
     si2-minusable = record { short = h .short; long = si2-long; left = larger (h .small) (omega arith); right = larger si2-small (omega arith) }
 
     pub weighs2 : {b t s : List ℤ} {w : List ℕ} → b ≡ filter table3x5 a → length t ≡ length x → length s ≡ length x → length w ≡ length x → Weighs start a b t s w
-    weighs2 f i j k = record {
-      calendar = record { least = omega (arith, si2-long, h .long); most = omega (arith, si2-long, h .short); early = h .early; late = h .late };
-      si-small = si2-small;
-      r-small = rw f (sizes.within-norm si2-small average3x5 1000 largestSI (plain-sound .seasonal2-norm) (omega arith));
-      r-long = ap length f ∙ length-filter table3x5 a;
-      t-long = i ∙ sym si2-long;
-      s-long = j ∙ sym si2-long;
-      w-long = k ∙ sym si2-long;
-    }
+    weighs2 = weighs average3x5 (plain-sound .seasonal2-norm) si2-long (record { least = omega (arith, h .long); most = h .short; early = h .early; late = h .late }) si2-small
 
     pub weights2 : {b : List ℤ} {w : List ℕ} → b ≡ filter table3x5 a → w ≡ weightsOf start monthsOfYear (minus a (withoutLevel 6 table2x12 b)) → w ≡ weightsB9 start x
     unfolding weightsB9 irregularB9

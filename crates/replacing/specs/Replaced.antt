@@ -22,7 +22,7 @@ product zero = 1
 product (suc n) = suc n * product n
 
 -- METHOD 6.1: the denominator of all exact means. A mean is over 4,999 at most (a value of weight 999 and four neighbours), and each number from 1 to
--- 4,999 divides their product, which is never worked out: nothing but that law opens this definition
+-- 4,999 divides their product, which is never worked out: two laws open this definition, that one and that it is not 0 (proofs/ReplacedLaws.antt)
 unfoldable pub common : ℕ
 common = product 4999
 

@@ -1,10 +1,9 @@
 -- `pass_b::replaced_si1` meets its contract: SI1, its weights, and its values replaced by them.
 -- Assumes nothing.
-use mathlib.Core.Path.{_≡_, ap₂, _∙_}
+use mathlib.Core.Path.{ap₂, _∙_}
 use native.Mathlib.Omega.{arith}
 use Rattle.refusals.specs.Limits.{monthsOfYear}
 use Rattle.replacing.specs.Replaced.{replacedBy}
-use Rattle.tables.specs.PassB.{weightsB4}
 use Rattle.pass_b.proofs.Turns.{series, si1-filterable, si1-long, weighs1, weights1}
 use borrow.Author.Needs.{needs}
 use Rattle.pass_b.proofs.replaced_si1.Statement.{statement}
