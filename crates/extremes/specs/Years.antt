@@ -51,8 +51,8 @@ pub record BegunYears : Type 0 where
   pub last-but-one : length (group 10 monthsOfYear (tab 114 (λ t. t)) 9) ≡ 51
   pub last : length (group 10 monthsOfYear (tab 114 (λ t. t)) 10) ≡ 51
 
--- METHOD 3.8 and 5.2: SI1 of 72 months has 60; from start month 1 it begins in month 7 and touches six years, from start month 7 it begins in month 1 and
--- touches five, all of which use one group of all months (shown in proofs/GroupMonths.antt)
+-- METHOD 3.8 and 5.2: SI1 of 72 months has 60. From start month 1 it begins in month 7 and touches six years; from start month 7 it begins in month
+-- 1 and touches five, which all use one group of all months (shown in proofs/GroupMonths.antt)
 pub record FewestYears : Type 0 where
   pub july : monthOf 1 monthsOfYear 6 ≡ 7
   pub six : years 7 monthsOfYear 60 ≡ 6

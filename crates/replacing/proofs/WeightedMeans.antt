@@ -1,4 +1,4 @@
--- Means whose weights are natural numbers that sum to the denominator, of values at whatever places: how large they are, and how far from the exact ones.
+-- Means whose weights are natural numbers that sum to the denominator, of values at whatever places: how large, and how far from the exact ones.
 use mathlib.Core.Path.{_≡_}
 use mathlib.Core.List.{List}
 use Prim.Native.Nat.{ℕ, _+_, _*_, _/_, _≤_, _<_}

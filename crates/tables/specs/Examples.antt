@@ -1,4 +1,4 @@
--- METHOD 4.4: a flooded January, worked through pass B (shown in proofs/Examples.antt). The numbers come from the separately written program of the tests.
+-- METHOD 4.4: a flooded January, worked through pass B (shown in proofs/Examples.antt). The numbers are those of the separately written program.
 use mathlib.Core.Path.{_≡_}
 use mathlib.Core.Bool.{cond}
 use mathlib.Core.List.{List, [], _∷_}

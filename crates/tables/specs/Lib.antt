@@ -1,4 +1,5 @@
--- METHOD 3.8, 4 and 6: what pass B replaces, the tables, the exact working of the results, and how near the two are. Bounds has how large the tables can be.
+-- METHOD 3.8, 4 and 6: what pass B replaces, the tables, the exact working of the results, how near the two are, and a worked example. Bounds has
+-- how large the tables can be.
 pub mod PassB
 pub mod Tables
 pub mod Exact

@@ -11,8 +11,8 @@ use Rattle.tables.specs.PassB.{choicesB}
 use Rattle.tables.specs.Tables.{choicesC, choicesD, B1, B7, B10, C1, C7, C10, D1, D10}
 use Rattle.tables.specs.Exact.{overE, E10, E11, E12, E13}
 
--- METHOD 6.3, of each pass on its X. In pass B the exact working replaces the same values by the same weights and neighbours (they stand in its choices):
--- B7 lies within 6 grains of the exact T2, and B10 within 13 of the exact S2. In passes C and D T2 (C7) lies within 4, and S2 (C10, D10) within 10
+-- METHOD 6.3, of each pass on its X. In pass B the exact working replaces the same values by the same weights and neighbours, which stand in its
+-- choices: B7 lies within 6 grains of the exact T2, and B10 within 13 of the exact S2. In passes C and D T2 (C7) lies within 4, S2 (C10, D10) within 10
 pub record PassesNear (start : ℕ) (figures : List ℤ) : Type 0 where
   pub pass-b : Near (choicesB start (B1 start figures)) 6 13 (B1 start figures) (B7 start figures) (B10 start figures)
   pub pass-c : Near choicesC 4 10 (C1 start figures) (C7 start figures) (C10 start figures)

@@ -1,5 +1,5 @@
--- METHOD 3.8: how pass B finds the extreme values of SI1 and SI2, on a series x from a start month (the working of the book's tables B4 and B9), and what
--- it then chooses. It is chosen in two turns: SI1 is weighed first, and SI2 comes from the SI1 that is replaced.
+-- METHOD 3.8: how pass B finds the extreme values of SI1 and SI2, on a series x from a start month (the working of the book's tables B4 and B9), and
+-- what it then chooses, in two turns: SI1 is weighed first, and SI2 comes from the SI1 that is replaced.
 use mathlib.Core.List.{List}
 use Prim.Native.Nat.{ℕ}
 use lib.IntN.{ℤ}
