@@ -1,6 +1,7 @@
 //! A plain integer program for the rules, written for speed in the usual ways: constant divisors and constant rows, a sliding sum for 2×12,
-//! no test of the row inside a filter, sums of squares once for a year, each group once. Tables are in grains. It works in the tables that
-//! the caller lends and the front of the scratch; of its own it has the sizes of the months and the sums of the years.
+//! no test of the row inside a filter, sums of squares once for a year, each group once, a list of the places of full weight once for a
+//! month's run. Tables are in grains. It works in the tables that the caller lends and the front of the scratch; of its own it has the sizes
+//! of the months, the sums of the years and the places of a run.
 
 use crate::checks::check;
 use crate::{Answer, Lent};
@@ -10,7 +11,11 @@ const FULL_WEIGHT: u16 = 1000;
 
 /// s / D to the nearest whole number, a half away from zero.
 fn nearest<const D: i64>(s: i64) -> i64 {
-    (2 * s + if s < 0 { -D } else { D }) / (2 * D)
+    nearest_of(s, D)
+}
+
+fn nearest_of(s: i64, d: i64) -> i64 {
+    (2 * s + if s < 0 { -d } else { d }) / (2 * d)
 }
 
 /// The sum of w[k] x[k * step].
@@ -100,25 +105,6 @@ fn less_level(r: &[i64], m: &[i64], out: &mut [i64]) {
     minus(&r[6..n - 6], m, &mut out[6..n - 6]);
 }
 
-/// Steps 1 to 7: T2 in t and S2 in s; a and b are work space.
-fn pass(x: &[i64], a: &mut [i64], b: &mut [i64], t: &mut [i64], s: &mut [i64]) {
-    let n = x.len();
-    let e = n - 12;
-    two_by_twelve(x, &mut a[..e]);
-    minus(&x[6..n - 6], &a[..e], &mut b[..e]);
-    three_by_three(&b[..e], &mut a[..e]);
-    two_by_twelve(&a[..e], &mut b[..n - 24]);
-    less_level(&a[..e], &b[..n - 24], &mut s[6..n - 6]);
-    s.copy_within(12..18, 0);
-    s.copy_within(n - 18..n - 12, n - 6);
-    minus(x, s, a);
-    henderson(a, t);
-    minus(x, t, a);
-    three_by_five(a, b);
-    two_by_twelve(b, &mut a[..e]);
-    less_level(b, &a[..e], s);
-}
-
 /// The spread of months of these sizes, but for those with twice their size above the limit.
 fn second_spread(sizes: &[u64], limit: u64) -> Option<u64> {
     let (mut sum, mut count) = (0, 0);
@@ -172,16 +158,103 @@ fn weigh(irregular: &[i64], start: u8, weights: &mut [u16]) -> bool {
     true
 }
 
-/// A pass on x and the weights of its irregular; x becomes B1 less the corrections.
-fn revise(figures: &[i32], start: u8, x: &mut [i64], [a, b, t, s]: [&mut [i64]; 4], weights: &mut [u16]) -> bool {
-    pass(x, a, b, t, s);
-    for (((b, &figure), t), s) in b.iter_mut().zip(figures).zip(&*t).zip(&*s) {
-        *b = UNIT * figure as i64 - s - t;
+/// Replaces the values of low weight by means over their month's run. The neighbours of a value stand side by side in the list of the run's
+/// places of full weight: two on each side of it, or the three nearest. A place of low weight is listed with the number of full ones before.
+fn replace(si: &mut [i64], weights: &[u16]) {
+    let (mut full, mut low) = ([0; 50], [(0, 0); 50]);
+    for month in 0..12 {
+        let (mut fulls, mut lows) = (0, 0);
+        for t in (month..weights.len()).step_by(12) {
+            if weights[t] == FULL_WEIGHT {
+                full[fulls] = t;
+                fulls += 1;
+            } else {
+                low[lows] = (t, fulls);
+                lows += 1;
+            }
+        }
+        let full = &full[..fulls];
+        for &(t, earlier) in &low[..lows] {
+            let (mut lo, mut hi) = (earlier, earlier);
+            if lo >= 2 && hi + 2 <= fulls {
+                (lo, hi) = (lo - 2, hi + 2);
+            } else {
+                while hi - lo < fulls.min(3) {
+                    if hi == fulls || lo > 0 && t - full[lo - 1] <= full[hi] - t {
+                        lo -= 1;
+                    } else {
+                        hi += 1;
+                    }
+                }
+            }
+            if lo < hi {
+                let neighbours: i64 = full[lo..hi].iter().map(|&t| si[t]).sum();
+                let w = weights[t] as i64;
+                si[t] = nearest_of(w * si[t] + 1000 * neighbours, w + 1000 * (hi - lo) as i64);
+            }
+        }
     }
-    if !weigh(b, start, weights) {
+}
+
+/// The seasonal of si: the filter of each month's run, less its level. r and m are work space.
+fn seasonal(filter: impl Fn(&[i64], &mut [i64]), si: &[i64], r: &mut [i64], m: &mut [i64], s: &mut [i64]) {
+    let n = si.len();
+    let (r, m) = (&mut r[..n], &mut m[..n - 12]);
+    filter(si, r);
+    two_by_twelve(r, m);
+    less_level(r, m, s);
+}
+
+/// Replaces the extreme values of si by the weights of what the seasonal s leaves. False where dropping leaves a group empty.
+fn tame(si: &mut [i64], s: &[i64], start: u8, left: &mut [i64], weights: &mut [u16]) -> bool {
+    minus(si, s, left);
+    let done = weigh(left, start, weights);
+    if done {
+        replace(si, weights);
+    }
+    done
+}
+
+/// Steps 1 to 7: T2 in t and S2 in s; si, r and m are work space. Step 8 too where a start month is given with room for weights.
+fn pass(x: &[i64], [si, r, m, t, s]: [&mut [i64]; 5], mut extremes: Option<(u8, &mut [u16])>) -> bool {
+    let n = x.len();
+    let e = n - 12;
+    {
+        let (si, s) = (&mut si[..e], &mut s[6..n - 6]);
+        two_by_twelve(x, &mut r[..e]);
+        minus(&x[6..n - 6], r, si);
+        seasonal(three_by_three, si, r, m, s);
+        if let Some((start, weights)) = &mut extremes {
+            if !tame(si, s, (*start + 5) % 12 + 1, &mut r[..e], &mut weights[..e]) {
+                return false;
+            }
+            seasonal(three_by_three, si, r, m, s);
+        }
+    }
+    s.copy_within(12..18, 0);
+    s.copy_within(n - 18..n - 12, n - 6);
+    minus(x, s, r);
+    henderson(r, t);
+    minus(x, t, si);
+    seasonal(three_by_five, si, r, m, s);
+    if let Some((start, weights)) = extremes {
+        if !tame(si, s, start, r, weights) {
+            return false;
+        }
+        seasonal(three_by_five, si, r, m, s);
+    }
+    true
+}
+
+/// B1 less the corrections in x, from the irregular that T2 in t and S2 in s leave, which is worked in r; and its weights.
+fn revise(figures: &[i32], start: u8, x: &mut [i64], [r, t, s]: [&mut [i64]; 3], weights: &mut [u16]) -> bool {
+    for (((r, &figure), t), s) in r.iter_mut().zip(figures).zip(&*t).zip(&*s) {
+        *r = UNIT * figure as i64 - s - t;
+    }
+    if !weigh(r, start, weights) {
         return false;
     }
-    for (((x, &figure), &irregular), &weight) in x.iter_mut().zip(figures).zip(&*b).zip(&*weights) {
+    for (((x, &figure), &irregular), &weight) in x.iter_mut().zip(figures).zip(&*r).zip(&*weights) {
         *x = UNIT * figure as i64 - nearest::<1000>(irregular * (FULL_WEIGHT - weight) as i64);
     }
     true
@@ -196,13 +269,16 @@ pub fn decompose(figures: &[i32], start: u8, lent: &mut Lent) -> Answer {
         return answer;
     }
     let n = figures.len();
-    let x = &mut scratch[..n];
+    let (x, si) = scratch[..2 * n].split_at_mut(n);
     for (x, &figure) in x.iter_mut().zip(figures) {
         *x = UNIT * figure as i64;
     }
-    let done = revise(figures, start, x, [d11, d13, d12, d10], b17) && revise(figures, start, x, [d11, d13, d12, d10], c17);
+    let done = pass(x, [si, d11, d13, d12, d10], Some((start, b17)))
+        && revise(figures, start, x, [d11, d12, d10], b17)
+        && pass(x, [si, d11, d13, d12, d10], None)
+        && revise(figures, start, x, [d11, d12, d10], c17)
+        && pass(x, [si, d11, d13, d12, d10], None);
     if done {
-        pass(x, d11, d13, d12, d10);
         minus(x, d10, d11);
         henderson(d11, d12);
         for (((d11, d13), &figure), (d10, d12)) in d11.iter_mut().zip(d13).zip(figures).zip(d10.iter().zip(&*d12)) {

@@ -84,3 +84,26 @@ pub fn flat(seed: u64, n: usize, figure: i32, spikes: usize) -> Series {
     }
     Series { start, figures }
 }
+
+/// An ordinary series with an extreme in one of so many months and a flood of up to so many months.
+pub fn flooded(seed: u64, n: usize, one_in: i64, flood: i64) -> Series {
+    let mut dice = Dice::new(seed);
+    let mut series = ordinary(seed, n, 20_000, 300);
+    for figure in &mut series.figures {
+        if dice.between(1, one_in) == 1 {
+            *figure = dice.between(-200_000, 200_000) as i32;
+        }
+    }
+    let first = dice.between(0, n as i64 - 1) as usize;
+    for figure in series.figures[first..].iter_mut().take(dice.between(0, flood) as usize) {
+        *figure = (*figure + dice.between(30_000, 90_000) as i32).min(200_000);
+    }
+    series
+}
+
+/// So many units up or down, turning from month to month and from year to year, but 0 where said. With 1 unit most irregulars have the size 1,
+/// and if a group has a 0 its spread is cut to 0: nearly all values of SI1 and SI2 are replaced, with those of the zeros for neighbours.
+pub fn up_and_down(start: u8, n: usize, units: i32, mut zero: impl FnMut(usize) -> bool) -> Series {
+    let turned = |t: usize| if (t + t / 12) % 2 == 0 { units } else { -units };
+    Series { start, figures: (0..n).map(|t| if zero(t) { 0 } else { turned(t) }).collect() }
+}

@@ -1,6 +1,6 @@
 //! The plain program gives what ours gives, to the last entry of every lent slice.
 
-use bench::series::{at_the_limits, flat, ordinary, random, Dice, Series};
+use bench::series::{at_the_limits, flat, flooded, ordinary, random, up_and_down, Dice, Series};
 use bench::{ours, plain, Answer, Lent};
 
 /// Entries that no program leaves behind by chance.
@@ -80,6 +80,39 @@ fn begun_years_from_every_start_month() {
                 series.figures[n - 1 - dice.between(0, 11) as usize] = dice.between(-200_000, 200_000) as i32;
             }
             agree(&format!("{n} months from {start}, extremes"), &series);
+        }
+    }
+}
+
+#[test]
+fn many_extremes_and_floods() {
+    let mut dice = Dice::new(4);
+    for seed in 0..1200 {
+        let n = dice.between(72, if seed % 2 == 0 { 130 } else { 600 }) as usize;
+        let (one_in, flood) = ([2, 3, 5, 8, 15, 40][seed as usize % 6], [0, 6, 40][dice.between(0, 2) as usize]);
+        agree(&format!("flooded {seed}, {n} months"), &flooded(seed, n, one_in, flood));
+    }
+}
+
+#[test]
+fn runs_with_few_values_of_full_weight() {
+    for n in (72..=97).chain([114, 240, 355, 588, 589, 599, 600]) {
+        for start in 1..=12 {
+            let mut dice = Dice::new(100 * n as u64 + start as u64);
+            // Zeros in step.
+            for gap in [5, 13, 23, 29, 37, 49] {
+                let first = dice.between(0, gap - 1) as usize;
+                let series = up_and_down(start, n, 1, |t| t % gap as usize == first);
+                agree(&format!("{n} months from {start}, a zero every {gap}"), &series);
+            }
+            // Zeros by chance, more or fewer, and one in each fourth year.
+            for one_in in [2, 3, 5, 9, 20, 60] {
+                let units = dice.between(1, 2) as i32;
+                let mut series = up_and_down(start, n, units, |t| t % 48 == 30 || dice.between(1, one_in) == 1);
+                agree(&format!("{n} months from {start}, {units} or one in {one_in} zero"), &series);
+                series.figures.iter_mut().for_each(|figure| *figure += dice.between(-1, 1) as i32 * (dice.between(1, 9) == 1) as i32);
+                agree(&format!("{n} months from {start}, {units} or one in {one_in} zero, disturbed"), &series);
+            }
         }
     }
 }

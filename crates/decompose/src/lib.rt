@@ -132,7 +132,7 @@ fn clear(scratch: &mut [i64], n: usize)
     series::zero_front(scratch, 8 * n);
 }
 
-// The three passes, X standing at the front of the scratch. Row 6 is looked at, and never applies.
+// The three passes, X standing at the front of the scratch. The answers for B13 and C13 are looked at; no weighing ever empties a group (METHOD 5.8).
 fn three_passes(
     figures: &[i32],
     start: u8,

@@ -5,7 +5,7 @@ use mathlib.Core.Logic.{_↔_}
 use native.Mathlib.Nat.{div-add-mod, mul-add-div}
 use native.Mathlib.Omega.{arith}
 use Rattle.integers.specs.Lists.{tabFrom, tab}
-use Rattle.extremes.specs.Years.{yearOf, monthOf, years, yearStart, months, groupAround, centre, group, BegunYears, FewestYears}
+use Rattle.extremes.specs.Years.{yearOf, monthOf, years, yearStart, months, groupAround, centre, group, SameYears, BegunYears, FewestYears}
 use Rattle.extremes.proofs.YearLaws.{from-start, before-start}
 
 -- a month t of the series stands between the two starts that `groupAround` takes, if and only if its year is year c, one of the two before or one
@@ -15,13 +15,15 @@ pub group-words : (start period n c t : ℕ) → 1 ≤ start → start ≤ perio
 group-words start period n c t h k l m = let a = from-start (c - 2) t h k n m in let b = before-start (c + 3) t h k n m in
     (λ w. omega (arith, a .0 (w .0), b .0 (w .1)), λ w. (a .1 (omega arith), b .1 (omega arith)))
 
--- the months from k on, as a series that starts in the calendar month of k: its year 0 is the calendar year of month k
-pub same-years : {start period : ℕ} (k t : ℕ) → 1 ≤ start → start ≤ period → yearOf start period (k + t) ≡ yearOf start period k + yearOf (monthOf start period k) period t
+-- the months from k on keep their calendar years
+pub same-years : {start period : ℕ} → 1 ≤ start → start ≤ period → SameYears start period
 unfolding yearOf monthOf
-same-years {start} {period} k t h l =
-    let a = start - 1 + k in
-    let e : start - 1 + (k + t) ≡ period * (a / period) + (a % period + 1 - 1 + t) = omega (arith, div-add-mod a period) in
-    rw e (mul-add-div (omega arith) (a / period) _)
+same-years {start} {period} h l = record {
+  from = λ k t.
+      let a = start - 1 + k in
+      let e : start - 1 + (k + t) ≡ period * (a / period) + (a % period + 1 - 1 + t) = omega (arith, div-add-mod a period) in
+      rw e (mul-add-div (omega arith) (a / period) _);
+}
 
 -- 114 months from start month 10, by computation
 pub begun-years : BegunYears
@@ -31,4 +33,4 @@ begun-years = record { eleven = refl; first = refl; second = refl; last-but-one 
 -- SI1 of 72 months
 pub fewest-years : FewestYears
 unfolding tabFrom tab yearOf monthOf years yearStart months groupAround centre group
-fewest-years = record { july = refl; six = refl; january = refl; five = refl; first = refl; last = refl }
+fewest-years = record { from-january = refl; six = refl; six-groups = refl; from-july = refl; five = refl; one-group = refl }

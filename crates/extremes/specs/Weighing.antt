@@ -36,7 +36,7 @@ module _ (start period : ℕ) where
   unfoldable pub weightsBy : List ℕ → List ℕ
   weightsBy sizes = tab (length sizes) (monthWeight sizes)
 
-  -- METHOD 4.1 and 4.2: the weights of an irregular
+  -- METHOD 3.8, 4.1 and 4.2: the weights of an irregular
   unfoldable pub weightsOf : List ℤ → List ℕ
   weightsOf x = weightsBy (sizesOf x)
 

@@ -1,7 +1,7 @@
 -- METHOD 5.1 and 5.2: years and their groups. Months t and years count from 0, the start month from 1. A year has `period` months.
 use Prim.Native.Nat.{ℕ, _+_, _*_, _-_, _/_, _%_, min, max}
 use mathlib.Core.Path.{_≡_}
-use mathlib.Core.List.{List}
+use mathlib.Core.List.{List, [], _∷_}
 use lib.ListN.{length}
 use lib.Seq.{slice}
 use Rattle.integers.specs.Lists.{tab}
@@ -21,8 +21,7 @@ module _ (start period : ℕ) where
   unfoldable pub yearOf : ℕ → ℕ
   yearOf t = (start - 1 + t) / period
 
-  -- METHOD 3.8: the calendar month of month t, which is the start month of an irregular that has the months from t on (its years are the same calendar
-  -- years: proofs/GroupMonths.antt, same-years)
+  -- METHOD 3.8: the calendar month of month t, which is the start month of an irregular that has the months from t on
   unfoldable pub monthOf : ℕ → ℕ
   monthOf t = (start - 1 + t) % period + 1
 
@@ -42,6 +41,11 @@ module _ (start period : ℕ) where
   unfoldable pub group : List ℕ → ℕ → List ℕ
   group sizes y = groupAround sizes (centre (years (length sizes)) y)
 
+-- METHOD 3.8: the months from k on, as a series of their own from the calendar month of k, keep their calendar years: its year 0 is that of month k
+-- (shown in proofs/GroupMonths.antt)
+pub record SameYears (start period : ℕ) : Type 0 where
+  pub from : (k t : ℕ) → yearOf start period (k + t) ≡ yearOf start period k + yearOf (monthOf start period k) period t
+
 -- METHOD 5.2: 114 months from start month 10 touch eleven years, and the groups that the first two and the last two years use have 51 months (shown
 -- in proofs/GroupMonths.antt)
 pub record BegunYears : Type 0 where
@@ -54,9 +58,9 @@ pub record BegunYears : Type 0 where
 -- METHOD 3.8 and 5.2: SI1 of 72 months has 60. From start month 1 it begins in month 7 and touches six years; from start month 7 it begins in month
 -- 1 and touches five, which all use one group of all months (shown in proofs/GroupMonths.antt)
 pub record FewestYears : Type 0 where
-  pub july : monthOf 1 monthsOfYear 6 ≡ 7
+  pub from-january : monthOf 1 monthsOfYear 6 ≡ 7
   pub six : years 7 monthsOfYear 60 ≡ 6
-  pub january : monthOf 7 monthsOfYear 6 ≡ 1
+  pub six-groups : tab 6 (λ y. length (group 7 monthsOfYear (tab 60 (λ t. t)) y)) ≡ 54 ∷ 54 ∷ 54 ∷ 54 ∷ 54 ∷ 54 ∷ []
+  pub from-july : monthOf 7 monthsOfYear 6 ≡ 1
   pub five : years 1 monthsOfYear 60 ≡ 5
-  pub first : group 1 monthsOfYear (tab 60 (λ t. t)) 0 ≡ tab 60 (λ t. t)
-  pub last : group 1 monthsOfYear (tab 60 (λ t. t)) 4 ≡ tab 60 (λ t. t)
+  pub one-group : tab 5 (λ y. length (group 1 monthsOfYear (tab 60 (λ t. t)) y)) ≡ 60 ∷ 60 ∷ 60 ∷ 60 ∷ 60 ∷ []

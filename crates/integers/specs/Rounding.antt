@@ -1,4 +1,4 @@
--- METHOD 1.3 and 1.4: fractions are rounded one single time. `toGrain` rounds every filter and correction to a grain; `awayFromZero` rounds the
+-- METHOD 1.3 and 1.4: fractions are rounded one single time. `toGrain` rounds every filter, correction and mean to a grain; `awayFromZero` rounds the
 -- millionths of Henderson's ends (2.6) and an irregular to whole units (5.3). They are one rule today, under two names so that each use says what
 -- it rounds: a later rule may part them, and only the laws of `toGrain` use that they agree.
 use Prim.Native.Nat.{ℕ, suc, _+_, _*_, _/_}

@@ -66,7 +66,7 @@ fn widen(s: &[i64], out: &mut [i64])
     copy_from(s, n - 24, n - 6, n, out);
 }
 
-// r less its level, in out: its 2x12, which m holds, with the ends repeated.
+// r less its level, its 2x12 with the ends repeated, in out; m is work space.
 pub fn without_level(r: &[i64], m: &mut [i64], out: &mut [i64])
     requires { ⌜ Filterable (now r) × (13 ≤ length (now r)) × (length (now m) + 12 ≡ length (now r)) × (length (now out) ≡ length (now r)) ⌝ }
     ensures { λ _. ⌜ now (out .exit) ≡ withoutLevel 6 table2x12 (now (r .entry)) ⌝ }
@@ -75,7 +75,7 @@ pub fn without_level(r: &[i64], m: &mut [i64], out: &mut [i64])
     less_level(r, m, out);
 }
 
-// Steps 1 and 2: SI1 of x in si, which holds n - 12 numbers as t1 does.
+// Steps 1 and 2: SI1 of x in si, which holds n - 12 numbers as t1 does, the work space.
 pub fn first_si(x: &[i64], t1: &mut [i64], si: &mut [i64])
     requires { ⌜ PassSeries 6 (now x) × (length (now t1) + 12 ≡ length (now x)) × (length (now si) + 12 ≡ length (now x)) ⌝ }
     ensures { λ _. ⌜ now (si .exit) ≡ SI1 plainMonthly (now (x .entry)) ⌝ }
@@ -114,7 +114,7 @@ fn first_seasonal(x: &[i64], p: &mut [i64], q: &mut [i64], r: &mut [i64], out: &
     seasonal_of_si1(q, p, r, out);
 }
 
-// Step 5: Henderson of x less a seasonal s, in out. The final trend is worked in the same way.
+// Step 5: Henderson of x less a seasonal s, in out; a is work space. The final trend is worked in the same way.
 pub fn trend(x: &[i64], s: &[i64], a: &mut [i64], out: &mut [i64])
     requires { ⌜ Adjustable (now x) (now s) × (length (now a) ≡ length (now x)) × (length (now out) ≡ length (now x)) ⌝ }
     ensures { λ _. ⌜ now (out .exit) ≡ filter tableHenderson (minus (now (x .entry)) (now (s .entry))) ⌝ }
@@ -124,7 +124,7 @@ pub fn trend(x: &[i64], s: &[i64], a: &mut [i64], out: &mut [i64])
 }
 
 // Steps 6 and 7: S2 of x in out, from its T2.
-fn final_seasonal(x: &[i64], t: &[i64], a: &mut [i64], b: &mut [i64], out: &mut [i64])
+fn second_seasonal(x: &[i64], t: &[i64], a: &mut [i64], b: &mut [i64], out: &mut [i64])
     requires { ⌜ PassSeries 6 (now x) × (now t ≡ T2 plainMonthly (now x)) × Work (now x) (now a) (now b) (now out) ⌝ }
     ensures { λ _. ⌜ now (out .exit) ≡ S2 plainMonthly (now (x .entry)) ⌝ }
 {
@@ -141,5 +141,5 @@ pub fn one_pass(x: &[i64], a: &mut [i64], b: &mut [i64], t: &mut [i64], s: &mut 
     let m = x.len() - 24;
     first_seasonal(x, &mut a[..e], &mut b[..e], &mut t[..m], s);
     trend(x, s, a, t);
-    final_seasonal(x, t, a, b, s);
+    second_seasonal(x, t, a, b, s);
 }

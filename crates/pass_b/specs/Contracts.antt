@@ -21,7 +21,7 @@ pub record PassBSeries (start : ℕ) (x : List ℤ) : Type 0 where
   pub late : start ≤ monthsOfYear
 
 -- the slices of pass B: s for the seasonal, k long, the others m long
-pub record Slices (m k : ℕ) (a b t s : List ℤ) (w : List ℕ) : Type 0 where
+pub record PassBSlices (m k : ℕ) (a b t s : List ℤ) (w : List ℕ) : Type 0 where
   pub a-long : length a ≡ m
   pub b-long : length b ≡ m
   pub t-long : length t ≡ m

@@ -11,10 +11,10 @@ ghost use Rattle.steps.specs.Steps.{SI1, S1, T2};
 ghost use Rattle.extremes.specs.Weighing.{weightsOf};
 ghost use Rattle.tables.specs.PassB.{weightsB4, choicesB4};
 ghost use Rattle.pass.specs.Contracts.{withoutLevel};
-ghost use Rattle.pass_b.specs.Contracts.{PassBSeries, Slices, Weighs, SI2Replaced, PassBDone};
+ghost use Rattle.pass_b.specs.Contracts.{PassBSeries, PassBSlices, Weighs, SI2Replaced, PassBDone};
 
-// The weights of what the first seasonal of si leaves of it, from the calendar month of its first; r holds 3x3 or 3x5 of si. No group is ever emptied
-// (METHOD 5.8), so that the answer says nothing.
+// The weights of what the preliminary seasonal of si leaves of it, from the calendar month of its first value; r holds 3x3 or 3x5 of si. r, t and s
+// are then work space. No group is ever emptied (METHOD 5.8), so that the answer is not looked at.
 fn weigh(si: &[i64], start: u8, r: &mut [i64], t: &mut [i64], s: &mut [i64], w: &mut [u16])
     requires { ⌜ Weighs start (now si) (now r) (now t) (now s) (now w) ⌝ }
     ensures { λ _. ⌜ now (w .exit) ≡ weightsOf start monthsOfYear (minus (now (si .entry)) (withoutLevel 6 table2x12 (now (r .entry)))) ⌝ }
@@ -35,7 +35,7 @@ fn replaced_si1(
     s: &mut [i64],
     w: &mut [u16],
 )
-    requires { ⌜ PassBSeries start (now x) × Slices (length (now x) - 12) (length (now x) - 12) (now a) (now b) (now t) (now s) (now w) ⌝ }
+    requires { ⌜ PassBSeries start (now x) × PassBSlices (length (now x) - 12) (length (now x) - 12) (now a) (now b) (now t) (now s) (now w) ⌝ }
     ensures { λ _. ⌜ now (a .exit) ≡ replacedBy monthsOfYear (weightsB4 start (now (x .entry))) (SI1 plainMonthly (now (x .entry))) ⌝ }
 {
     pass::first_si(x, a, b);
@@ -55,7 +55,7 @@ fn first_seasonal(
     s: &mut [i64],
     w: &mut [u16],
 )
-    requires { ⌜ PassBSeries start (now x) × Slices (length (now x) - 12) (length (now x)) (now a) (now b) (now t) (now s) (now w) ⌝ }
+    requires { ⌜ PassBSeries start (now x) × PassBSlices (length (now x) - 12) (length (now x)) (now a) (now b) (now t) (now s) (now w) ⌝ }
     ensures { λ _. ⌜ now (s .exit) ≡ S1 (choicesB4 start (now (x .entry))) (now (x .entry)) ⌝ }
 {
     let e = x.len() - 12;
@@ -74,7 +74,8 @@ fn replaced_si2(
     s: &mut [i64],
     w: &mut [u16],
 )
-    requires { ⌜ PassBSeries start (now x) × (now t ≡ T2 (choicesB4 start (now x)) (now x)) × Slices (length (now x)) (length (now x)) (now a) (now b) (now t) (now s) (now w) ⌝ }
+    requires { ⌜ PassBSeries start (now x) × (now t ≡ T2 (choicesB4 start (now x)) (now x))
+        × PassBSlices (length (now x)) (length (now x)) (now a) (now b) (now t) (now s) (now w) ⌝ }
     ensures { λ _. ⌜ SI2Replaced start (now (x .entry)) (now (b .exit)) (now (t .exit)) ⌝ }
 {
     series::minus(x, t, a);
@@ -94,7 +95,7 @@ pub fn pass_b(
     s: &mut [i64],
     w: &mut [u16],
 )
-    requires { ⌜ PassBSeries start (now x) × Slices (length (now x)) (length (now x)) (now a) (now b) (now t) (now s) (now w) ⌝ }
+    requires { ⌜ PassBSeries start (now x) × PassBSlices (length (now x)) (length (now x)) (now a) (now b) (now t) (now s) (now w) ⌝ }
     ensures { λ _. ⌜ PassBDone start (now (x .entry)) (now (t .exit)) (now (s .exit)) ⌝ }
 {
     let e = x.len() - 12;

@@ -18,7 +18,7 @@ use Rattle.integers.proofs.Signed64.{Reads, i+, i-in}
 use Rattle.filters.specs.Contracts.{largest}
 use Rattle.replacing.specs.Neighbours.{fullBefore, fullAfter, nearest}
 use Rattle.replacing.specs.Replaced.{sumAt}
-use Rattle.replacing.specs.Contracts.{listFrom, nearer, Back, Ahead, SumAndNumber}
+use Rattle.replacing.specs.Contracts.{listFrom, nearer, Back, Ahead, SumAndCountOf}
 
 -- ---- which place is next: r, of the earlier place a and the later place b; E and L follow these in their lists
 module _ (n t k a b : ℕ) (E L : List ℕ) {r : ℕ} (e : r ≡ nearer n t a b) where
@@ -64,7 +64,7 @@ unfoldable pub three : ℕ → List ℕ → ℕ → List ℕ
 three period w t = nearest 3 t (fullBefore period w t) (fullAfter period w t)
 
 -- if nothing is to come, all is summed
-all-summed : (x : List ℤ) (rest : List ℕ) {all : List ℕ} {s : ℤ} {count : ℕ} → rest ≡ [] → s +ℤ sumAt x rest ≡ sumAt x all → count + length rest ≡ length all → SumAndNumber x all s count
+all-summed : (x : List ℤ) (rest : List ℕ) {all : List ℕ} {s : ℤ} {count : ℕ} → rest ≡ [] → s +ℤ sumAt x rest ≡ sumAt x all → count + length rest ≡ length all → SumAndCountOf x all s count
 unfolding sumAt
 all-summed x rest {s = s} e h k = record { sum-is = plus-zero s ∙ (rw e at h); count-is = omega (arith, k, ap length e) }
   where
@@ -100,7 +100,7 @@ module _ {period : ℕ} {x : List ℤ} {w : List ℕ} {t a b : ℕ} where
     pub choose-adds : AllWithin largest x → (p : ℕ) → Reads (s +ℤ toZ w64 (ofZ w64 (x ‼ p))) (s +ℤ (x ‼ p)) (3 * largest + largest)
     choose-adds y p = i+ {A = 3 * largest} (record { eq = refl; bound = w≤ (g .small) (omega (arith, g .most)) }) (i-in (y .at p) tt)
 
-    pub choose-end : 3 ≤ count → SumAndNumber x (three period w t) s count
+    pub choose-end : 3 ≤ count → SumAndCountOf x (three period w t) s count
     unfolding coming nearest
     choose-end h = let e : 3 - count ≡ 0 = omega arith in all-summed x (coming period w t a b (3 - count)) (rw e) (g .sum-is) (g .count-is)
 
@@ -109,7 +109,7 @@ module _ {period : ℕ} {x : List ℤ} {w : List ℕ} {t a b : ℕ} where
       one-less : 3 - count ≡ suc (3 - (count + 1))
       one-less = omega arith
 
-      pub choose-none : length w ≤ r → SumAndNumber x (three period w t) s count
+      pub choose-none : length w ≤ r → SumAndCountOf x (three period w t) s count
       unfolding coming
       choose-none l = all-summed x (coming period w t a b (3 - count))
           (rw one-less (nothing-next (length w) t (3 - (count + 1)) a b (fullBefore period w a) (fullAfter period w b) e l)) (g .sum-is) (g .count-is)

@@ -15,5 +15,7 @@ worked-examples = record {
   all-there-are = refl;
   weight-0 = refl;
   weight-500 = refl;
+  on-a-half = refl;
   no-neighbours = refl;
+  none-at-500 = refl;
 }

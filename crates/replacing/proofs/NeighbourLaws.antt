@@ -21,7 +21,7 @@ use Rattle.refusals.specs.Limits.{fullWeight}
 use Rattle.filters.specs.Contracts.{largest}
 use Rattle.replacing.specs.Neighbours.{fullBefore, fullAfter, nearest, neighbours}
 use Rattle.replacing.specs.Replaced.{sumAt, isReplaced, countedSum, counted, replacedAt}
-use Rattle.replacing.specs.Contracts.{Next, Back, Ahead, SumAndNumber}
+use Rattle.replacing.specs.Contracts.{Next, Back, Ahead, SumAndCountOf}
 use Rattle.replacing.proofs.WalkLaws.{list-some, list-none}
 use Rattle.replacing.proofs.ReplacedLaws.{neighbours-most}
 
@@ -63,7 +63,7 @@ module _ {period : ℕ} {w : List ℕ} {t : ℕ} where
   three-by-later l g h k = three-of period w t (omega (arith, few-next l (g .next) (h .next) k))
 
   pub four-summed : {x : List ℤ} {a b c d : ℕ} → t < length w → Back period w t a → Back period w a c → c < length w → Ahead period w t b → Ahead period w b d → d < length w
-      → SumAndNumber x (neighbours period w t) ((x ‼ a) +ℤ (x ‼ c) +ℤ (x ‼ b) +ℤ (x ‼ d)) 4
+      → SumAndCountOf x (neighbours period w t) ((x ‼ a) +ℤ (x ‼ c) +ℤ (x ‼ b) +ℤ (x ‼ d)) 4
   unfolding sumAt
   four-summed {x} {a} {b} {c} {d} l g h k g′ h′ k′ =
       let e = four-of period w t (fullBefore period w c) (fullAfter period w d) (two-next l (g .next) (h .next) k) (two-next l (g′ .next) (h′ .next) k′) in
@@ -72,7 +72,7 @@ module _ {period : ℕ} {w : List ℕ} {t : ℕ} where
       in-turn : (p q r s : ℤ) → p +ℤ q +ℤ r +ℤ s ≡ p +ℤ (q +ℤ (r +ℤ (s +ℤ pos 0)))
       in-turn p q r s = rw (rep p, rep q, rep r, rep s) (simp ringℤ (omega arith))
 
-pub summed-as : {x : List ℤ} {ps all : List ℕ} {s : ℤ} {count : ℕ} → SumAndNumber x ps s count → ps ≡ all → SumAndNumber x all s count
+pub summed-as : {x : List ℤ} {ps all : List ℕ} {s : ℤ} {count : ℕ} → SumAndCountOf x ps s count → ps ≡ all → SumAndCountOf x all s count
 summed-as {x} g e = record { sum-is = g .sum-is ∙ ap (sumAt x) e; count-is = g .count-is ∙ ap length e }
 
 -- ---- as the code adds four values: each sum is held as bits
@@ -100,7 +100,7 @@ module _ (period : ℕ) (w : List ℕ) (x : List ℤ) (t : ℕ) where
   unfolding replacedAt isReplaced
   full-stays h = simp (le-ltb (getD w t 0) fullWeight h)
 
-  module _ {s : ℤ} {count : ℕ} (g : SumAndNumber x (neighbours period w t) s count) where
+  module _ {s : ℤ} {count : ℕ} (g : SumAndCountOf x (neighbours period w t) s count) where
     pub alone-stays : count ≡ 0 → x ‼ t ≡ replacedAt period w x t
     unfolding replacedAt isReplaced
     alone-stays k = let n : length (neighbours period w t) ≤ 0 = omega (arith, g .count-is) in

@@ -23,32 +23,32 @@ use Rattle.series.proofs.Distances.{close-tab, close-times, looser}
 use Rattle.rows.proofs.RowTests.{left, right}
 use Rattle.rows.proofs.Means.{Mean}
 use Rattle.replacing.specs.Neighbours.{fullBefore, fullAfter, nearest, neighbours}
-use Rattle.replacing.specs.Replaced.{sumAt, product, common, isReplaced, countedSum, counted, replacedAt, replacedBy, exactReplacedAt, exactReplacedBy}
+use Rattle.replacing.specs.Replaced.{sumAt, factorial, common, isReplaced, countedSum, counted, replacedAt, replacedBy, exactReplacedAt, exactReplacedBy}
 use Rattle.replacing.proofs.WeightedMeans.{within-mean, close-mean}
 
 -- ---- each number from 1 to n divides their product
-divides : (n d : ℕ) → 0 < d → d ≤ n → d ∣ product n
-unfolding product
+divides : (n d : ℕ) → 0 < d → d ≤ n → d ∣ factorial n
+unfolding factorial
 divides zero d h k = absurd (omega arith)
 divides (suc n) d h k = go (λ l. divides n d h l) (decLe d n)
   where
-    go : (d ≤ n → d ∣ product n) → Dec (d ≤ n) → d ∣ suc n * product n
+    go : (d ≤ n → d ∣ factorial n) → Dec (d ≤ n) → d ∣ suc n * factorial n
     go f (yes l) = dvd-mul-left-of-dvd d (f l) (suc n)
-    go f (no l) = let e : d ≡ suc n = omega arith in subst (λ (m : ℕ). m ∣ suc n * product n) (sym e) (dvd-mul-right (suc n) (product n))
+    go f (no l) = let e : d ≡ suc n = omega arith in subst (λ (m : ℕ). m ∣ suc n * factorial n) (sym e) (dvd-mul-right (suc n) (factorial n))
 
 pub in-common : (d : ℕ) → 0 < d → d ≤ 4999 → d * (common / d) ≡ common
 unfolding common
 in-common d h k = mul-div-cancel' d (divides 4999 d h k)
 
 -- the product is not 0, so that a fraction over it is one
-product-some : (n : ℕ) → 0 < product n
-unfolding product
-product-some zero = omega arith
-product-some (suc n) = mul-pos {m = suc n} (omega arith) (product-some n)
+factorial-some : (n : ℕ) → 0 < factorial n
+unfolding factorial
+factorial-some zero = omega arith
+factorial-some (suc n) = mul-pos {m = suc n} (omega arith) (factorial-some n)
 
 pub common-some : 0 < common
 unfolding common
-common-some = product-some 4999
+common-some = factorial-some 4999
 
 -- ---- a value has four neighbours at most
 nearest-most : (k t : ℕ) (es ls : List ℕ) → length (nearest k t es ls) ≤ k

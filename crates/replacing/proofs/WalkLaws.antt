@@ -23,13 +23,13 @@ list-none n r l h = simp (le-ltb r n h)
 
 module _ {n t : ℕ} {list : ℕ → List ℕ} where
   next-found : {q : ℕ} → t < n → q < n → list t ≡ q ∷ list q → Next n list t q
-  next-found {q} l h e = record { from-place = λ _. e ∙ sym (list-some n q (list q) h); from-none = λ k. absurd (omega arith) }
+  next-found {q} l h e = record { from-place = λ _. e ∙ sym (list-some n q (list q) h); from-none = λ k. absurd (omega arith); most = omega arith }
 
   next-none : t < n → list t ≡ [] → Next n list t n
-  next-none l e = record { from-place = λ _. e ∙ sym (list-none n n (list n) (omega arith)); from-none = λ _. refl }
+  next-none l e = record { from-place = λ _. e ∙ sym (list-none n n (list n) (omega arith)); from-none = λ _. refl; most = omega arith }
 
   next-past : n ≤ t → Next n list t n
-  next-past h = record { from-place = λ l. absurd (omega arith); from-none = λ _. refl }
+  next-past h = record { from-place = λ l. absurd (omega arith); from-none = λ _. refl; most = omega arith }
 
 -- ---- a list by places, from its second place on
 tab-on : (lo m : ℕ) (f g : ℕ → ℕ) → ((i : ℕ) → f (suc i) ≡ g i) → tabFrom (suc lo) m f ≡ tabFrom lo m g

@@ -24,6 +24,7 @@ listFrom n r l = cond (ltb r n) (r ∷ l) []
 pub record Next (n : ℕ) (list : ℕ → List ℕ) (p r : ℕ) : Type 0 where
   pub from-place : p < n → list p ≡ listFrom n r (list r)
   pub from-none : n ≤ p → r ≡ n
+  pub most : r ≤ n
 
 -- r is the nearest place of weight 1,000 before p in its run ..
 pub record Back (period : ℕ) (w : List ℕ) (p r : ℕ) : Type 0 where
@@ -40,6 +41,6 @@ unfoldable pub nearer : ℕ → ℕ → ℕ → ℕ → ℕ
 nearer n t a b = cond (ltb a n) (cond (ltb b n) (cond (leb (t - a) (b - t)) a b) a) b
 
 -- the sum and the number of the values at some places
-pub record SumAndNumber (x : List ℤ) (ps : List ℕ) (sum : ℤ) (count : ℕ) : Type 0 where
+pub record SumAndCountOf (x : List ℤ) (ps : List ℕ) (sum : ℤ) (count : ℕ) : Type 0 where
   pub sum-is : sum ≡ sumAt x ps
   pub count-is : count ≡ length ps

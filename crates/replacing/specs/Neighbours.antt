@@ -1,4 +1,5 @@
--- METHOD 3.9: the neighbours of a value in its month's run. They follow from the weights w alone. A year has `period` months, and places count from 0.
+-- METHOD 3.9: the neighbours of a value in its month's run. They follow from the weights w alone. A year has `period` months. t and n count the places of
+-- the values themselves: SI1 has its first value, that of month 6, at place 0.
 use mathlib.Core.Bool.{cond}
 use mathlib.Core.List.{List, [], _∷_, _++_}
 use Prim.Native.Nat.{ℕ, zero, suc, _+_, _*_, _-_, _/_, min}
@@ -22,7 +23,7 @@ nearest (suc k) t (p ∷ es) [] = p ∷ nearest k t es []
 nearest (suc k) t (p ∷ es) (q ∷ ls) = cond (leb (t - p) (q - t)) (p ∷ nearest k t es (q ∷ ls)) (q ∷ nearest k t (p ∷ es) ls)
 
 module _ (period : ℕ) where
-  -- the places of t's run before it, t - 12, t - 24, .., and after it in a series of n months, t + 12, t + 24, ..
+  -- the places of t's run before it, t - 12, t - 24, .., and after it among n values, t + 12, t + 24, ..
   unfoldable pub runBefore : ℕ → List ℕ
   runBefore t = tab (t / period) (λ i. t - (i + 1) * period)
 

@@ -1,4 +1,4 @@
--- METHOD 3.9: the values of a table, replaced by the weights w where these are below 1,000; and METHOD 6.1: the same exactly, by the same weights and
+-- METHOD 3.9: the values of SI1 or SI2, those of a weight w below 1,000 replaced by means; and METHOD 6.1: the same exactly, with the same weights and
 -- neighbours.
 use mathlib.Core.Bool.{Bool, cond, _&&_}
 use mathlib.Core.List.{List, [], _∷_}
@@ -17,14 +17,14 @@ sumAt x [] = pos 0
 sumAt x (p ∷ ps) = (x ‼ p) +ℤ sumAt x ps
 
 -- 1 * 2 * .. * n
-unfoldable pub product : ℕ → ℕ
-product zero = 1
-product (suc n) = suc n * product n
+unfoldable pub factorial : ℕ → ℕ
+factorial zero = 1
+factorial (suc n) = suc n * factorial n
 
 -- METHOD 6.1: the denominator of all exact means. A mean is over 4,999 at most (a value of weight 999 and four neighbours), and each number from 1 to
 -- 4,999 divides their product, which is never worked out: two laws open this definition, that one and that it is not 0 (proofs/ReplacedLaws.antt)
 unfoldable pub common : ℕ
-common = product 4999
+common = factorial 4999
 
 module _ (period : ℕ) (w : List ℕ) where
   -- METHOD 3.9: a value is replaced if its weight is below 1,000 and it has a neighbour; else it stays
@@ -35,11 +35,11 @@ module _ (period : ℕ) (w : List ℕ) where
   unfoldable pub countedSum : List ℤ → ℕ → ℤ
   countedSum x t = pos (getD w t 0) *ℤ (x ‼ t) +ℤ pos fullWeight *ℤ sumAt x (neighbours period w t)
 
-  -- .. over w + 1,000 for each neighbour
+  -- .. over w, and 1,000 more for each neighbour
   unfoldable pub counted : ℕ → ℕ
   counted t = getD w t 0 + fullWeight * length (neighbours period w t)
 
-  -- METHOD 3.9: that mean, rounded once to a grain; and the table, all means taken from the values as they stood
+  -- METHOD 3.9: that mean, rounded once to a grain; and all values, the means taken from the values as they stood
   unfoldable pub replacedAt : List ℤ → ℕ → ℤ
   replacedAt x t = cond (isReplaced t) (toGrain (countedSum x t) (counted t)) (x ‼ t)
 

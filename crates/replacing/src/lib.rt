@@ -9,7 +9,7 @@ ghost use Rattle.refusals.specs.Limits.{mostMonths, monthsOfYear, fullWeight};
 ghost use Rattle.filters.specs.Contracts.{largest, Filterable};
 ghost use Rattle.replacing.specs.Neighbours.{fullBefore, fullAfter, nearest, neighbours};
 ghost use Rattle.replacing.specs.Replaced.{replacedAt, replacedBy};
-ghost use Rattle.replacing.specs.Contracts.{PlaceWeighed, Back, Ahead, nearer, SumAndNumber};
+ghost use Rattle.replacing.specs.Contracts.{PlaceWeighed, Back, Ahead, nearer, SumAndCountOf};
 
 // The nearest place of weight 1,000 before p in its run; w.len(), which is no place, if there is none or p is no place.
 fn back(w: &[u16], p: usize) -> usize
@@ -68,9 +68,15 @@ struct SumAndCount {
 }
 
 // METHOD 3.9: the three values of weight 1,000 nearest to place t, or all there are. `preceding` and `following` are the first place on each side.
-fn nearest_three(x: &[i64], w: &[u16], t: usize, preceding: usize, following: usize) -> SumAndCount
+fn sum_of_nearest_three(
+    x: &[i64],
+    w: &[u16],
+    t: usize,
+    preceding: usize,
+    following: usize,
+) -> SumAndCount
     requires { ⌜ PlaceWeighed (now x) (now w) t × Back monthsOfYear (now w) t preceding × Ahead monthsOfYear (now w) t following ⌝ }
-    ensures { λ r. ⌜ SumAndNumber (now (x .entry)) (nearest 3 t (fullBefore monthsOfYear (now (w .entry)) t) (fullAfter monthsOfYear (now (w .entry)) t))
+    ensures { λ r. ⌜ SumAndCountOf (now (x .entry)) (nearest 3 t (fullBefore monthsOfYear (now (w .entry)) t) (fullAfter monthsOfYear (now (w .entry)) t))
         (r .sum) (r .count) ⌝ }
 {
     let n = w.len();
@@ -101,19 +107,19 @@ fn nearest_three(x: &[i64], w: &[u16], t: usize, preceding: usize, following: us
 }
 
 // METHOD 3.9: the neighbours of place t, two on each side; or the three nearest, if one side has fewer than two.
-fn neighbours(x: &[i64], w: &[u16], t: usize) -> SumAndCount
+fn sum_of_neighbours(x: &[i64], w: &[u16], t: usize) -> SumAndCount
     requires { ⌜ PlaceWeighed (now x) (now w) t ⌝ }
-    ensures { λ r. ⌜ SumAndNumber (now (x .entry)) (neighbours monthsOfYear (now (w .entry)) t) (r .sum) (r .count) ⌝ }
+    ensures { λ r. ⌜ SumAndCountOf (now (x .entry)) (neighbours monthsOfYear (now (w .entry)) t) (r .sum) (r .count) ⌝ }
 {
     let a = back(w, t);
     let b = ahead(w, t);
     let c = back(w, a);
     if w.len() <= c {
-        return nearest_three(x, w, t, a, b);
+        return sum_of_nearest_three(x, w, t, a, b);
     }
     let d = ahead(w, b);
     if w.len() <= d {
-        return nearest_three(x, w, t, a, b);
+        return sum_of_nearest_three(x, w, t, a, b);
     }
     SumAndCount {
         sum: x[a] + x[c] + x[b] + x[d],
@@ -141,7 +147,7 @@ fn replaced_at(x: &[i64], w: &[u16], t: usize) -> i64
     if refusals::FULL_WEIGHT <= own {
         return value;
     }
-    let near = neighbours(x, w, t);
+    let near = sum_of_neighbours(x, w, t);
     if near.count == 0 {
         return value;
     }

@@ -30,7 +30,7 @@ henderson13 = record { table = tableHenderson; over = 4_199_000_000 }
 pub data Replacing : Type 0 where
   -- METHOD 3.10: they are not replaced
   none : Replacing
-  -- METHOD 3.8 and 3.9: extreme ones are replaced, by these weights
+  -- METHOD 3.8 and 3.9: those of a weight below 1,000 are replaced, by means of their neighbours; these are the weights
   byWeights : List ℕ → Replacing
 
 -- h is half a year, in months
@@ -76,6 +76,6 @@ monthly seasonal2 replacing1 replacing2 =
       replacing2 = replacing2;
     }
 
--- METHOD 3.1 to 3.7 as passes C and D take them: 3×5 in step 6, and no value of SI1 and SI2 is replaced (3.10)
+-- METHOD 3.1 to 3.7 with 3×5 in step 6, where no value of SI1 and SI2 is replaced: passes C and D (3.10), and in pass B the weighing of SI1 (3.8)
 abbrev pub plainMonthly : Choices
 plainMonthly = monthly average3x5 none none

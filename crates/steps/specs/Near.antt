@@ -6,7 +6,7 @@ use Rattle.series.specs.Distance.{AllAtMostApart}
 use Rattle.steps.specs.Choices.{Choices}
 use Rattle.steps.specs.Exact.{overT2, overS2, exactT2, exactS2}
 
--- METHOD 6.3, of t and s as T2 and S2 of a pass on x: t lies within g grains of the exact T2, and s within h of the exact S2
-pub record Near (c : Choices) (g h : ℕ) (x t s : List ℤ) : Type 0 where
-  pub trend : AllAtMostApart g (overT2 c) t (exactT2 c x)
-  pub seasonal : AllAtMostApart h (overS2 c) s (exactS2 c x)
+-- METHOD 6.3, of t and s as T2 and S2 of a pass on x: t lies within p grains of the exact T2, and s within q of the exact S2
+pub record Near (c : Choices) (p q : ℕ) (x t s : List ℤ) : Type 0 where
+  pub trend : AllAtMostApart p (overT2 c) t (exactT2 c x)
+  pub seasonal : AllAtMostApart q (overS2 c) s (exactS2 c x)

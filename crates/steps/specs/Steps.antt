@@ -21,9 +21,13 @@ module _ (c : Choices) (x : List ℤ) where
   unfoldable pub SI1 : List ℤ
   SI1 = minus (inner (c .halfYear) x) T1
 
-  -- METHOD 3.3: R1, the first seasonal before it is centred, is 3×3 of SI1, in pass B of SI1 replaced (3.8), month's run by month's run
+  -- METHOD 3.8 and 3.10: SI1 as it is filtered, in pass B with its extreme values replaced
+  abbrev pub filteredSI1 : List ℤ
+  filteredSI1 = replaced (c .halfYear) (c .replacing1) SI1
+
+  -- METHOD 3.3: R1, the first seasonal before it is centred, is 3×3 of it, month's run by month's run
   unfoldable pub R1 : List ℤ
-  R1 = filter (c .seasonal1 .table) (replaced (c .halfYear) (c .replacing1) SI1)
+  R1 = filter (c .seasonal1 .table) filteredSI1
 
   -- METHOD 3.4: M1 is 2×12 of R1, worked at t from 12 to n - 13; the first of these values is repeated at t 6 to 11, the last at t n - 12 to n - 7.
   -- S1, the first seasonal, is R1 less M1, at t from 6 to n - 7 (`innerS1`); the first six months copy that of a year later, the last six that of a
@@ -44,13 +48,16 @@ module _ (c : Choices) (x : List ℤ) where
   unfoldable pub T2 : List ℤ
   T2 = filter (c .trend .table) A1
 
-  -- METHOD 3.6: SI2 is X less T2, and R2, the seasonal before it is centred, is 3×5 of SI2, in pass B of SI2 replaced (3.8), run by run, over all n
-  -- months
+  -- METHOD 3.6: SI2 is X less T2; as it is filtered, in pass B its extreme values are replaced (3.8, 3.10)
   unfoldable pub SI2 : List ℤ
   SI2 = minus x T2
 
+  abbrev pub filteredSI2 : List ℤ
+  filteredSI2 = replaced (c .halfYear) (c .replacing2) SI2
+
+  -- METHOD 3.6: R2, the seasonal before it is centred, is 3×5 of it, run by run, over all n months
   unfoldable pub R2 : List ℤ
-  R2 = filter (c .seasonal2 .table) (replaced (c .halfYear) (c .replacing2) SI2)
+  R2 = filter (c .seasonal2 .table) filteredSI2
 
   -- METHOD 3.7: M2 is 2×12 of R2, its first and last result repeated at the six months of each end; S2, the seasonal of the pass, is R2 less M2
   unfoldable pub M2 : List ℤ

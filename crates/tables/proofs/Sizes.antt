@@ -36,7 +36,7 @@ unfolding corrections
 within-corrections {b} {z} w h = tab-within b (length z) (λ t. correctionOf (z ‼ t) (getD w t 0)) (λ t. correction-within (z ‼ t) (getD w t 0) (h .at t))
 
 -- ---- how long
--- what the first seasonals of pass B leave
+-- what the preliminary seasonals of pass B leave
 pub length-irregularB4 : (x : List ℤ) → length (irregularB4 x) ≡ length x - 12
 unfolding irregularB4
 length-irregularB4 x = length-minus (SI1 plainMonthly x) (innerS1 plainMonthly x) ∙ length-si1 plainMonthly x

@@ -13,11 +13,11 @@ use Rattle.steps.specs.Steps.{S2}
 use Rattle.tables.specs.PassB.{weightsB4, weightsB9}
 use Rattle.tables.specs.Tables.{B1, B10}
 
--- METHOD 4.4: 72 figures from start month 7, each 1,000 and what is left of t times t divided by 17; but 500 at t = 18, the second January
+-- METHOD 4.4: 72 figures from start month 7, each 1,000 and the remainder of t times t by 17; but 500 at t = 18, the second January
 unfoldable pub flooded : List ℤ
-flooded = tab 72 (λ t. cond (eqb t 18) (pos 500) (pos (1000 + t * t % 17)))
+flooded = tab 72 (λ t. cond (eqb t 18) (pos 500) (pos (1000 + (t * t) % 17)))
 
--- of a list, place `first` and those whole years later, so many
+-- of a list, `count` places whole years apart, from place `first` on; d stands past the end
 abbrev pub yearByYear : {A : Type 0} → A → ℕ → ℕ → List A → List A
 yearByYear d first count l = tab count (λ i. getD l (first + monthsOfYear * i) d)
 

@@ -35,8 +35,8 @@ module _ (start : ℕ) (figures : List ℤ) where
   unfoldable pub B1 : List ℤ
   B1 = times unit figures
 
-  -- METHOD 4.1: B7, the trend-cycle, is T2 of B1; B10, the seasonal, is S2, extreme values of SI1 and SI2 being replaced; B13 is the irregular that
-  -- both leave
+  -- METHOD 4.1, extreme values of SI1 and SI2 being replaced in the pass: B7, the trend-cycle, is T2 of B1; B10, the seasonal, is S2; B13 is the
+  -- irregular that both leave
   unfoldable pub B7 : List ℤ
   B7 = T2 (choicesB start B1) B1
 

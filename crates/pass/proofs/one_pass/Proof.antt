@@ -68,8 +68,8 @@ trend-requires : tie.Need-trend-requires
 trend-requires c κs = let f = c .before .before .before .before .before .before .before in let s = f .before .before .before .before .before in
     (adjustable plain-sound (s .pre .0) (f .first-seasonal .ensures), a-back f, t-back f)
 
-final-seasonal-requires : tie.Need-final-seasonal-requires
-final-seasonal-requires c κs = let p = c .before .before .before .before .before .before in let f = p .before .before .before .before .before .before .before .before in let s = f .before .before .before .before .before in
+second-seasonal-requires : tie.Need-second-seasonal-requires
+second-seasonal-requires c κs = let p = c .before .before .before .before .before .before in let f = p .before .before .before .before .before .before .before .before in let s = f .before .before .before .before .before in
     (s .pre .0, to-t2 plain-sound (s .pre .0) (f .first-seasonal .ensures) (p .trend .ensures), record { a-long = omega (arith, a-back f); b-long = b-back f; out-long = omega (arith, s .pre .1 .out-long) })
 
 same-length : tie.Need-same-length
@@ -86,7 +86,7 @@ same-length-4 c = search needs
 
 returns : tie.Need-returns
 returns c = let l = c .before .before .before in let p = l .before .before .before .before .before .before .before in let f = p .before .before .before .before .before .before .before .before in let s = f .before .before .before .before .before in
-    record { trend = to-t2 plain-sound (s .pre .0) (f .first-seasonal .ensures) (p .trend .ensures); seasonal = l .final-seasonal .ensures }
+    record { trend = to-t2 plain-sound (s .pre .0) (f .first-seasonal .ensures) (p .trend .ensures); seasonal = l .second-seasonal .ensures }
 
 pub one-pass-spec : {M : Type 1} → statement M
 one-pass-spec =
@@ -102,7 +102,7 @@ one-pass-spec =
     slice-aggregate-first-seasonal-3
     first-seasonal-requires
     trend-requires
-    final-seasonal-requires
+    second-seasonal-requires
     same-length
     same-length-2
     same-length-3

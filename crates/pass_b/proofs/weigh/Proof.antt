@@ -1,4 +1,4 @@
--- `pass_b::weigh` meets its contract: the first seasonal, what it leaves, and the weights of that.
+-- `pass_b::weigh` meets its contract: the preliminary seasonal, what it leaves, and the weights of that.
 -- Assumes nothing.
 use Prim.Native.Nat.{ℕ, _-_, _≤_}
 use mathlib.Core.Path.{_≡_, ap, _∙_}

@@ -1,4 +1,4 @@
--- `replacing::neighbours` meets its contract: a case for each test.
+-- `replacing::sum_of_neighbours` meets its contract: a case for each test.
 -- Assumes nothing.
 use Prim.Native.Nat.{_+_, _<_}
 use native.Mathlib.Omega.{arith}
@@ -9,8 +9,8 @@ use Rattle.integers.specs.Lists.{_‼_}
 use Rattle.integers.proofs.Signed64.{Reads, i-fits, i-kept}
 use Rattle.filters.specs.Contracts.{largest}
 use Rattle.replacing.proofs.NeighbourLaws.{held, first-inside, three-by-earlier, three-by-later, four-summed, summed-as, two-read, three-read, four-read}
-use Rattle.replacing.proofs.neighbours.Statement.{statement}
-use Rattle.replacing.proofs.neighbours.Tie as tie
+use Rattle.replacing.proofs.sum_of_neighbours.Statement.{statement}
+use Rattle.replacing.proofs.sum_of_neighbours.Tie as tie
 
 back-requires : tie.Need-back-requires
 back-requires c κs = search needs
@@ -21,22 +21,22 @@ ahead-requires c κs = search needs
 back-requires-2 : tie.Need-back-requires-2
 back-requires-2 c κs = search needs
 
-nearest-three-requires : tie.Need-nearest-three-requires
-nearest-three-requires c κs = search needs
+sum-of-nearest-three-requires : tie.Need-sum-of-nearest-three-requires
+sum-of-nearest-three-requires c κs = search needs
 
 returns : tie.Need-returns
 returns c = let e = c .before .before in
-    summed-as (c .nearest-three .ensures) (three-by-earlier (omega arith) (e .before .before .back .ensures) (e .back2 .ensures) (omega (arith, c .before .if1 .taken)))
+    summed-as (c .sum-of-nearest-three .ensures) (three-by-earlier (omega arith) (e .before .before .back .ensures) (e .back2 .ensures) (omega (arith, c .before .if1 .taken)))
 
 ahead-requires-2 : tie.Need-ahead-requires-2
 ahead-requires-2 c κs = search needs
 
-nearest-three-requires-2 : tie.Need-nearest-three-requires-2
-nearest-three-requires-2 c κs = search needs
+sum-of-nearest-three-requires-2 : tie.Need-sum-of-nearest-three-requires-2
+sum-of-nearest-three-requires-2 c κs = search needs
 
 returns-2 : tie.Need-returns-2
 returns-2 c = let f = c .before .before in
-    summed-as (c .nearest-three2 .ensures) (three-by-later (omega arith) (f .before .before .before .ahead .ensures) (f .ahead2 .ensures) (c .before .if2 .taken))
+    summed-as (c .sum-of-nearest-three2 .ensures) (three-by-later (omega arith) (f .before .before .before .ahead .ensures) (f .ahead2 .ensures) (c .before .if2 .taken))
 
 -- the nearer one on each side is a place
 earlier-inside : (i : tie.Else2) → let e = i .before .before .before in e .before .before .back .result < length (e .before .before .before .before .args .w .now)
@@ -92,17 +92,17 @@ returns-3 c = let i = c .before .before .before .before in let f = i .before in 
     rw (i-kept (sum-is c) tt .eq)
     (four-summed (omega arith) (e .before .before .back .ensures) (e .back2 .ensures) (f .before .if1 .left) (e .before .ahead .ensures) (f .ahead2 .ensures) (i .if2 .left))
 
-pub neighbours-spec : {M : Type 1} → statement M
-neighbours-spec =
+pub sum-of-neighbours-spec : {M : Type 1} → statement M
+sum-of-neighbours-spec =
     tie.close
     (tie.spec
     back-requires
     ahead-requires
     back-requires-2
-    nearest-three-requires
+    sum-of-nearest-three-requires
     returns
     ahead-requires-2
-    nearest-three-requires-2
+    sum-of-nearest-three-requires-2
     returns-2
     mul-t8
     shared-slice-copy-out-t11

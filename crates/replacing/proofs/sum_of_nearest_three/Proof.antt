@@ -1,4 +1,4 @@
--- `replacing::nearest_three` meets its contract: what was taken so far and what is still to come make the whole.
+-- `replacing::sum_of_nearest_three` meets its contract: what was taken so far and what is still to come make the whole.
 -- Assumes nothing.
 use Prim.Native.Nat.{_-_}
 use native.Mathlib.Omega.{arith}
@@ -7,8 +7,8 @@ use mir.Val.{toZ}
 use Rattle.integers.proofs.Signed64.{i-fits, i-kept}
 use Rattle.refusals.specs.Limits.{monthsOfYear}
 use Rattle.replacing.proofs.Choosing.{Choosing, three, choose-start, choose-adds, choose-none, choose-earlier, choose-later, choose-end}
-use Rattle.replacing.proofs.nearest_three.Statement.{statement}
-use Rattle.replacing.proofs.nearest_three.Tie as tie
+use Rattle.replacing.proofs.sum_of_nearest_three.Statement.{statement}
+use Rattle.replacing.proofs.sum_of_nearest_three.Tie as tie
 
 abbrev Inv-loop : tie.InvT-loop
 Inv-loop x w t preceding following n a₀ b₀ sum₀ count₀ a b sum count = Choosing monthsOfYear x w t a b count (toZ w64 sum)
@@ -64,8 +64,8 @@ returns-2 : tie.Need-returns-2 Inv-loop μ-loop
 unfolding three
 returns-2 c = choose-end (c .before .loop .inv) (omega arith)
 
-pub nearest-three-spec : {M : Type 1} → statement M
-nearest-three-spec =
+pub sum-of-nearest-three-spec : {M : Type 1} → statement M
+sum-of-nearest-three-spec =
     tie.close
     (tie.spec
     Inv-loop

@@ -1,4 +1,4 @@
--- `pass::final_seasonal` meets its contract: SI2, then its seasonal.
+-- `pass::second_seasonal` meets its contract: SI2, then its seasonal.
 -- Assumes nothing.
 use mathlib.Core.Path.{_≡_}
 use native.Mathlib.Omega.{arith}
@@ -7,8 +7,8 @@ use Rattle.steps.specs.Steps.{SI2}
 use Rattle.steps.proofs.Sound.{plain-sound}
 use Rattle.pass.proofs.Stages.{minusable2, to-si2, si2-filterable, to-s2}
 use borrow.Author.Needs.{needs}
-use Rattle.pass.proofs.final_seasonal.Statement.{statement}
-use Rattle.pass.proofs.final_seasonal.Tie as tie
+use Rattle.pass.proofs.second_seasonal.Statement.{statement}
+use Rattle.pass.proofs.second_seasonal.Tie as tie
 
 -- what stands in a after the difference
 is-si2 : (p : tie.After-minus) → p .minus .last .1 .1 .0 ≡ SI2 plainMonthly (p .before .before .args .x .now)
@@ -37,8 +37,8 @@ same-length-3 c = search needs
 returns : tie.Need-returns
 returns c = let p = c .before .before .before .before .before .before .before .before in to-s2 plain-sound (p .before .before .pre .0) (is-si2 p) (c .before .before .before .seasonal-of-si2 .ensures)
 
-pub final-seasonal-spec : {M : Type 1} → statement M
-final-seasonal-spec =
+pub second-seasonal-spec : {M : Type 1} → statement M
+second-seasonal-spec =
     tie.close
     (tie.spec
     minus-requires
