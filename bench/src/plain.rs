@@ -205,8 +205,8 @@ fn seasonal(filter: impl Fn(&[i64], &mut [i64]), si: &[i64], r: &mut [i64], m: &
     less_level(r, m, s);
 }
 
-/// Replaces the extreme values of si by the weights of what the seasonal s leaves. False where dropping leaves a group empty.
-fn tame(si: &mut [i64], s: &[i64], start: u8, left: &mut [i64], weights: &mut [u16]) -> bool {
+/// Replaces the extreme values of si, as the weights of what the seasonal s leaves of it tell. False where dropping leaves a group empty.
+fn replace_extremes(si: &mut [i64], s: &[i64], start: u8, left: &mut [i64], weights: &mut [u16]) -> bool {
     minus(si, s, left);
     let done = weigh(left, start, weights);
     if done {
@@ -215,7 +215,7 @@ fn tame(si: &mut [i64], s: &[i64], start: u8, left: &mut [i64], weights: &mut [u
     done
 }
 
-/// Steps 1 to 7: T2 in t and S2 in s; si, r and m are work space. Step 8 too where a start month is given with room for weights.
+/// Steps 1 to 7: T2 in t and S2 in s; si, r and m are work space. Extreme values are replaced where a start month is given with room for weights.
 fn pass(x: &[i64], [si, r, m, t, s]: [&mut [i64]; 5], mut extremes: Option<(u8, &mut [u16])>) -> bool {
     let n = x.len();
     let e = n - 12;
@@ -225,7 +225,7 @@ fn pass(x: &[i64], [si, r, m, t, s]: [&mut [i64]; 5], mut extremes: Option<(u8, 
         minus(&x[6..n - 6], r, si);
         seasonal(three_by_three, si, r, m, s);
         if let Some((start, weights)) = &mut extremes {
-            if !tame(si, s, (*start + 5) % 12 + 1, &mut r[..e], &mut weights[..e]) {
+            if !replace_extremes(si, s, (*start + 5) % 12 + 1, &mut r[..e], &mut weights[..e]) {
                 return false;
             }
             seasonal(three_by_three, si, r, m, s);
@@ -238,7 +238,7 @@ fn pass(x: &[i64], [si, r, m, t, s]: [&mut [i64]; 5], mut extremes: Option<(u8, 
     minus(x, t, si);
     seasonal(three_by_five, si, r, m, s);
     if let Some((start, weights)) = extremes {
-        if !tame(si, s, start, r, weights) {
+        if !replace_extremes(si, s, start, r, weights) {
             return false;
         }
         seasonal(three_by_five, si, r, m, s);
