@@ -1,6 +1,7 @@
 -- Laws of the filters.
 pub mod Light
 pub mod Distances
+pub mod WeightedMeans
 pub mod Largest
 pub mod Lengths
 pub mod Window

@@ -1,5 +1,4 @@
--- Laws of means with natural weights and of replaced values; of the walks of the code; and the worked examples.
-pub mod WeightedMeans
+-- Laws of replaced values and of the walks of the code, and the worked examples.
 pub mod ReplacedLaws
 pub mod WalkLaws
 pub mod Choosing

@@ -22,9 +22,9 @@ use Rattle.series.proofs.Lengths.{at-times}
 use Rattle.series.proofs.Distances.{close-tab, close-times, looser}
 use Rattle.rows.proofs.RowTests.{left, right}
 use Rattle.rows.proofs.Means.{Mean}
+use Rattle.filters.proofs.WeightedMeans.{within-mean, close-mean}
 use Rattle.replacing.specs.Neighbours.{fullBefore, fullAfter, nearest, neighbours}
 use Rattle.replacing.specs.Replaced.{sumAt, factorial, common, isReplaced, countedSum, counted, replacedAt, replacedBy, exactReplacedAt, exactReplacedBy}
-use Rattle.replacing.proofs.WeightedMeans.{within-mean, close-mean}
 
 -- ---- each number from 1 to n divides their product
 divides : (n d : ℕ) → 0 < d → d ≤ n → d ∣ factorial n
