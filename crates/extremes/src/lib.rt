@@ -25,7 +25,7 @@ pub enum Weighed {
 // METHOD 3.8: the calendar month of month t, where a year has so many months.
 pub fn month_of(start: u8, period: u8, t: usize) -> u8
     requires { ⌜ (1 ≤ start) × (start ≤ period) × (t ≤ mostMonths) ⌝ }
-    ensures { λ r. ⌜ r ≡ monthOf start period t ⌝ }
+    ensures { λ r. ⌜ (r ≡ monthOf start period t) × (1 ≤ r) × (r ≤ period) ⌝ }
 {
     ((start as usize - 1 + t) % (period as usize) + 1) as u8
 }

@@ -1,7 +1,7 @@
 -- What each call of pass B leaves is the next table of the rules, and is what the next call asks: SI1 is weighed and replaced, then SI2.
 use mathlib.Core.Path.{_≡_, refl, sym, ap, ap₂, _∙_}
 use mathlib.Core.List.{List}
-use Prim.Native.Nat.{ℕ, _*_, _-_}
+use Prim.Native.Nat.{ℕ, _*_, _-_, _≤_}
 use native.Mathlib.Omega.{arith}
 use lib.ListN.{length}
 use lib.IntN.{ℤ, pos, _-ℤ_}
@@ -25,7 +25,6 @@ use Rattle.steps.proofs.Largest as sizes
 use Rattle.steps.proofs.Lengths.{length-si1, length-si2}
 use Rattle.extremes.specs.Contracts.{Calendar, Weighable}
 use Rattle.extremes.specs.Weighing.{weightsOf}
-use Rattle.extremes.proofs.YearLaws.{part-calendar}
 use Rattle.pass.specs.Contracts.{withoutLevel, PassSeries}
 use Rattle.pass.proofs.Stages as stages
 use Rattle.tables.specs.PassB.{irregularB4, startB4, weightsB4, choicesB4, irregularB9, weightsB9, choicesB}
@@ -112,8 +111,10 @@ module _ {start : ℕ} {x : List ℤ} (h : PassBSeries start x) where
     si1-small : AllWithin largestSI b
     si1-small = rw e (larger (sizes.si1 plain-sound (h .small)) (omega arith))
 
-    pub weighs1 : {a t s : List ℤ} {w : List ℕ} → a ≡ filter table3x3 b → length t ≡ length x - 12 → length s ≡ length x - 12 → length w ≡ length x - 12 → Weighs (startB4 start) b a t s w
-    weighs1 = weighs average3x3 (plain-sound .seasonal1-norm) si1-long (part-calendar 6 (h .long) (h .short) (h .early) (h .late)) si1-small
+    -- from whatever month: that it is the month of t = 6 matters to the weights alone
+    pub weighs1 : {first : ℕ} {a t s : List ℤ} {w : List ℕ} → 1 ≤ first → first ≤ monthsOfYear → a ≡ filter table3x3 b
+        → length t ≡ length x - 12 → length s ≡ length x - 12 → length w ≡ length x - 12 → Weighs first b a t s w
+    weighs1 i j = weighs average3x3 (plain-sound .seasonal1-norm) si1-long (record { least = omega (arith, h .long); most = omega (arith, h .short); early = i; late = j }) si1-small
 
     pub weights1 : {a : List ℤ} {w : List ℕ} → a ≡ filter table3x3 b → w ≡ weightsOf (startB4 start) monthsOfYear (minus b (withoutLevel 6 table2x12 a)) → w ≡ weightsB4 start x
     unfolding weightsB4 irregularB4

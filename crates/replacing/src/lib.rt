@@ -127,14 +127,21 @@ fn sum_of_neighbours(x: &[i64], w: &[u16], t: usize) -> SumAndCount
     }
 }
 
+// METHOD 3.9: what a mean is over: the weight of the value, and 1,000 more for each neighbour.
+fn counted(own: u16, count: usize) -> usize
+    requires { ⌜ (own < fullWeight) × (count ≤ 4) ⌝ }
+    ensures { λ r. ⌜ r ≡ own + fullWeight * count ⌝ }
+{
+    (own as usize) + (refusals::FULL_WEIGHT as usize) * count
+}
+
 // METHOD 3.9: the mean of a value, counted by its weight, and its neighbours, counted 1,000 times each; rounded once.
 fn weighted_mean(own: u16, value: i64, sum: i64, count: usize) -> i64
     requires { ⌜ (own < fullWeight) × (value within largest) × (sum within 4 * largest) × (0 < count) × (count ≤ 4) ⌝ }
     ensures { λ r. ⌜ r ≡ toGrain (pos own *ℤ value +ℤ pos fullWeight *ℤ sum) (own + fullWeight * count) ⌝ }
 {
     let total = (own as i64) * value + (refusals::FULL_WEIGHT as i64) * sum;
-    let d = (own as usize) + (refusals::FULL_WEIGHT as usize) * count;
-    integers::to_grain(total, d as i64)
+    integers::to_grain(total, counted(own, count) as i64)
 }
 
 // METHOD 3.9: the value of place t, replaced if its weight is below 1,000 and it has a neighbour.

@@ -41,7 +41,7 @@ to-d1-requires c κs = let q = c .before .before .before .before .before .before
   s .0,
   record { a-long = omega (arith, s .1, e); b-long = omega (arith, s .1, e); t-long = omega (arith, s .1, e); s-long = omega (arith, s .1, e) },
   e .ensures .series-is,
-  s .3 .c17-long,
+  omega (arith, s .3, e),
 )
 
 same-length-7 : tie.Need-same-length-7

@@ -29,7 +29,7 @@ cast-result c = omega (arith, within c, c .fits)
 
 returns : tie.Need-returns
 unfolding monthOf
-returns c = refl
+returns c = (refl, omega arith, omega (arith, within c))
 
 pub month-of-spec : {M : Type 1} → statement M
 month-of-spec = tie.close (tie.spec sub-result add-result rem-result add-result-2 cast-result returns)

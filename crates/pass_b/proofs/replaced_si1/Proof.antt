@@ -23,8 +23,8 @@ month-of-requires : tie.Need-month-of-requires
 month-of-requires c κs = search needs
 
 weigh-requires : tie.Need-weigh-requires
-weigh-requires c κs = let r = c .before .before .before .before .before .before .before in let f = r .before .before .before .before .before in let s = f .before .before .before .before .pre in
-    rw (c .before .before .before .before .before .month-of .ensures) (weighs1 (s .0) (f .first-si .ensures) (r .three-by-three .ensures) (s .1 .t-long) (s .1 .s-long) (s .1 .w-long))
+weigh-requires c κs = let r = c .before .before .before .before .before .before .before in let f = r .before .before .before .before .before in let s = f .before .before .before .before .pre in let m = c .before .before .before .before .before .month-of .ensures in
+    weighs1 (s .0) (f .first-si .ensures) (m .1) (m .2) (r .three-by-three .ensures) (s .1 .t-long) (s .1 .s-long) (s .1 .w-long)
 
 replace-requires : tie.Need-replace-requires
 replace-requires c κs = let g = c .before .before .before .before .before .before .before .before in let r = g .before .before .before .before .before .before .before .before in let f = r .before .before .before .before .before in let s = f .before .before .before .before .pre in let b = si1-long (s .0) (f .first-si .ensures) in
@@ -47,7 +47,7 @@ same-length-5 c = search needs
 
 returns : tie.Need-returns
 returns c = let g = c .before .before .before .before .before .before .before .before .before .before in let r = g .before .before .before .before .before .before .before .before in let f = r .before .before .before .before .before in let s = f .before .before .before .before in
-    c .before .replace .ensures ∙ ap₂ (replacedBy monthsOfYear) (weights1 (s .pre .0) (f .first-si .ensures) (r .three-by-three .ensures) (rw (g .before .before .before .before .before .before .month-of .ensures) at (g .weigh .ensures))) (f .first-si .ensures)
+    c .before .replace .ensures ∙ ap₂ (replacedBy monthsOfYear) (weights1 (s .pre .0) (f .first-si .ensures) (r .three-by-three .ensures) (rw (g .before .before .before .before .before .before .month-of .ensures .0) at (g .weigh .ensures))) (f .first-si .ensures)
 
 pub replaced-si1-spec : {M : Type 1} → statement M
 replaced-si1-spec =

@@ -1,4 +1,4 @@
--- `replacing::weighted_mean` meets its contract: the counted sum fits, and the count is the number that it was.
+-- `replacing::weighted_mean` meets its contract: the counted sum fits, and what it is over is from 1 to 5,000.
 -- Assumes nothing.
 use Prim.Native.Nat.{_+_, _*_}
 use mathlib.Core.Path.{ap, ap₂, _∙_}
@@ -28,8 +28,9 @@ total-is : (s : tie.Start) → Reads (held (toZ w64 (s .args .own) *ℤ held (s 
     (pos (s .args .own) *ℤ s .args .value +ℤ pos fullWeight *ℤ s .args .sum) (fullWeight * largest + fullWeight * (4 * largest))
 total-is s = i+ (i-kept (own-is s) tt) (i-kept (near-is s) tt)
 
-d-is : (s : tie.Start) → Reads (toZ w64 (s .args .own + fullWeight * s .args .count)) (pos (s .args .own + fullWeight * s .args .count)) (5 * fullWeight)
-d-is s = i-cast {n = s .args .own + fullWeight * s .args .count} {B = 5 * fullWeight} (omega (arith, s .pre)) tt
+-- what the mean is over, as the call gave it
+d-is : (k : tie.After-counted) → Reads (toZ w64 (k .counted .result)) (pos (k .counted .result)) (5 * fullWeight)
+d-is k = i-cast {n = k .counted .result} {B = 5 * fullWeight} (omega (arith, k .counted .ensures, k .before .pre)) tt
 
 cast-total : tie.Need-cast-total
 cast-total c = search needs
@@ -46,23 +47,18 @@ mul-total-2 c = i-fits (near-is c) tt
 add-total : tie.Need-add-total
 add-total c = i-fits (total-is c) tt
 
-cast-d : tie.Need-cast-d
-cast-d c = search needs
-
-mul-d : tie.Need-mul-d
-mul-d c = search needs
-
-add-d : tie.Need-add-d
-add-d c = search needs
+counted-requires : tie.Need-counted-requires
+counted-requires c κs = search needs
 
 cast-to-grain : tie.Need-cast-to-grain
 cast-to-grain c = search needs
 
 to-grain-requires : tie.Need-to-grain-requires
-to-grain-requires c κs = rounds (i-kept (total-is c) tt) (d-is c) (omega arith) (omega arith) (ltZ-yes (lt→ltb 0 (c .args .own + fullWeight * c .args .count) (omega (arith, c .pre))))
+to-grain-requires c κs = rounds (i-kept (total-is (c .before)) tt) (d-is c) (omega arith) (omega arith) (ltZ-yes (lt→ltb 0 (c .counted .result) (omega (arith, c .counted .ensures, c .before .pre))))
 
 returns : tie.Need-returns
-returns c = let s = c .before in kept (c .to-grain .ok) (c .to-grain .ensures) ∙ ap₂ toGrain (i-kept (total-is s) tt .eq) (ap natAbs (d-is s .eq))
+returns c = let k = c .before in
+    kept (c .to-grain .ok) (c .to-grain .ensures) ∙ ap₂ toGrain (i-kept (total-is (k .before)) tt .eq) (ap natAbs (d-is k .eq) ∙ k .counted .ensures)
 
 pub weighted-mean-spec : {M : Type 1} → statement M
 weighted-mean-spec =
@@ -73,9 +69,7 @@ weighted-mean-spec =
     cast-total-2
     mul-total-2
     add-total
-    cast-d
-    mul-d
-    add-d
+    counted-requires
     cast-to-grain
     to-grain-requires
     returns)
