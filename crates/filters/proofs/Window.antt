@@ -1,11 +1,12 @@
 -- The row and the values that a filter reads are there, and its sum is small.
 use mathlib.Core.Path.{_≡_, refl}
 use mathlib.Core.Logic.{_⊎_, inl, inr, ⊎-elim}
-use mathlib.Core.List.{List}
+use mathlib.Core.Bool.{Bool, true, false, cond}
+use mathlib.Core.List.{List, []}
 use Prim.Native.Nat.{ℕ, _+_, _*_, _-_, _/_, _≤_, _<_, min}
 use native.Mathlib.Nat.{le-trans, le-div-iff-mul-le, div-lt-iff-lt-mul, div-add-mod', mul-le-mul-right, add-mul}
 use native.Mathlib.Omega.{arith}
-use lib.Dec.{T, leb, leb→le}
+use lib.Dec.{T, leb, leb→le, eqb}
 use borrow.Author.Tests.{eq-eqb, ne-eqb}
 use lib.ListN.{length}
 use lib.IntN.{ℤ}
@@ -17,9 +18,10 @@ use Rattle.integers.specs.Sums.{norm}
 use Rattle.integers.proofs.SumLaws.{sumN-upto, wsum-within}
 use Rattle.integers.specs.Contracts.{largestNumerator}
 use Rattle.rows.specs.Table.{Table, rowWeight, denominator}
+use Rattle.rows.specs.declared.Shape.{Shape}
 use Rattle.rows.proofs.RowTests.{all, all-at}
 use Rattle.filters.specs.Filter.{earlier, later, rowAt, dot, weightedSum, valueAt}
-use Rattle.filters.specs.Contracts.{largest, largestNorm, largestOver, mostSide, mostStep, mostWidth, Dots, Readable, Filters, Served, Serves, ServeInTurn}
+use Rattle.filters.specs.Contracts.{largest, largestNorm, largestOver, mostSide, mostStep, mostWidth, tableOf, Dots, Readable, Filters, Served, Serves, ServeInTurn}
 
 -- b values precede place t of x, and a follow
 module _ (F : Table) (x : List ℤ) (t b a : ℕ) (fs : Filters F x) (v : Served F (length x) b a t) where
@@ -71,6 +73,18 @@ in-middle F r e = rw (eq-eqb r (F .side) e)
 pub at-ends : (F : Table) (r : ℕ) → (r ≡ F .side → ⊥) → F .ends ≡ denominator F r
 unfolding denominator
 at-ends F r e = rw (ne-eqb r (F .side) e)
+
+pub any-weights : (f : Shape) (r : ℕ) (rows : List ℤ) → denominator (tableOf f []) r ≡ denominator (tableOf f rows) r
+unfolding denominator
+any-weights f r rows = refl
+
+pub denominator-limits : (F : Table) → Readable F → (r : ℕ) → (1 ≤ denominator F r) × (denominator F r ≤ largestOver)
+unfolding denominator
+denominator-limits F h r = go (eqb r (F .side))
+  where
+    go : (b : Bool) → (1 ≤ cond b (F .middle) (F .ends)) × (cond b (F .middle) (F .ends) ≤ largestOver)
+    go true = (h .middle-least, h .middle-most)
+    go false = (h .ends-least, h .ends-most)
 
 -- ---- which row serves a place
 -- of a distance d, b steps are whole, or more than a row takes

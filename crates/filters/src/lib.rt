@@ -1,6 +1,7 @@
 // METHOD 2: every moving average, by one filter over constant rows.
 ghost use mathlib.Core.Path.{_≡_};
 ghost use Prim.Native.Nat.{_+_, _*_, _-_, _≤_, _<_, min};
+ghost use mathlib.Core.List.{[]};
 ghost use lib.ListN.{length};
 ghost use lib.IntN.{pos};
 ghost use Rattle.integers.specs.Sizes.{_within_};
@@ -8,6 +9,7 @@ ghost use Rattle.integers.specs.Lists.{_‼_};
 ghost use Rattle.integers.specs.Rounding.{toGrain};
 ghost use Rattle.integers.specs.Filling.{Filled};
 ghost use Rattle.integers.specs.Contracts.{largestNumerator};
+ghost use Rattle.rows.specs.Table.{denominator};
 ghost use Rattle.rows.specs.FilterTables.{table2x12, table3x3, table3x5, tableHenderson};
 ghost use Rattle.filters.specs.Filter.{dot, valueAt, filter, inside};
 ghost use Rattle.filters.specs.Contracts.{tableOf, largestOver, Dots, Filterable, Served, Serves, ServeInTurn, Filters, sum2x12};
@@ -49,6 +51,13 @@ fn rounded(sum: i64, d: usize) -> i64
     integers::to_grain(sum, d as i64)
 }
 
+// The denominator of a row, whatever its weights are: the middle one has its own.
+fn denominator(f: Shape, row: usize) -> usize
+    ensures { λ r. ⌜ r ≡ denominator (tableOf f []) row ⌝ }
+{
+    if row == f.side { f.middle } else { f.ends }
+}
+
 // The filter's value at place t by the row for so many values before and after it.
 fn by_row(f: Shape, rows: &[i64], x: &[i64], earlier: usize, later: usize, t: usize) -> i64
     requires { ⌜ Filters (tableOf f (now rows)) (now x) × Served (tableOf f (now rows)) (length (now x)) earlier later t ⌝ }
@@ -57,11 +66,7 @@ fn by_row(f: Shape, rows: &[i64], x: &[i64], earlier: usize, later: usize, t: us
     let row = earlier + (f.side - later);
     let first = t - earlier * f.step;
     let sum = dot(rows, row * f.width, earlier + 1 + later, x, first, f.step);
-    if row == f.side {
-        rounded(sum, f.middle)
-    } else {
-        rounded(sum, f.ends)
-    }
+    rounded(sum, denominator(f, row))
 }
 
 // The filter at the places from lo to below hi, which one row serves: no place asks for its row.

@@ -1,9 +1,11 @@
 -- `filters::by_row` meets its contract: the row and the window lie within the slices, and the sum is that of the rules.
 -- Assumes nothing.
 use Prim.Native.Nat.{_+_, _*_, _-_, _≤_}
+use mathlib.Core.Path.{_≡_, _∙_}
 use native.Mathlib.Omega.{arith}
+use borrow.Author.Needs.{needs}
 use Rattle.integers.proofs.Signed64.{i-call, i-within, kept}
-use Rattle.rows.specs.Table.{Table}
+use Rattle.rows.specs.Table.{Table, denominator}
 use Rattle.filters.specs.Contracts.{tableOf, Dots}
 use Rattle.filters.proofs.Window as window
 use Rattle.filters.proofs.by_row.Statement.{statement}
@@ -50,23 +52,22 @@ add-dot-2 c = omega (arith, few (start3 c), start3 c .pre .0 .readable .side-mos
 dot-requires : tie.Need-dot-requires
 dot-requires c κs = the-dots (start3 c)
 
-rounded-requires : tie.Need-rounded-requires
-rounded-requires c κs = let p = c .before .before in let s = start3 (p .before) in
-    (i-within (i-call (p .dot .ok) (p .dot .ensures) (window.dot-within (the-dots s))), s .pre .0 .readable .middle-least, s .pre .0 .readable .middle-most)
+-- the row's denominator
+over : (c : tie.After-denominator) → c .denominator .result ≡ denominator (F (start3 (c .before .before))) (start3 (c .before .before) .args .earlier + (start3 (c .before .before) .args .f .side - start3 (c .before .before) .args .later))
+over c = c .denominator .ensures ∙ window.any-weights (start3 (c .before .before) .args .f) _ (start3 (c .before .before) .args .rows .now)
 
-rounded-requires-2 : tie.Need-rounded-requires-2
-rounded-requires-2 c κs = let p = c .before .before in let s = start3 (p .before) in
-    (i-within (i-call (p .dot .ok) (p .dot .ensures) (window.dot-within (the-dots s))), s .pre .0 .readable .ends-least, s .pre .0 .readable .ends-most)
+denominator-requires : tie.Need-denominator-requires
+denominator-requires c κs = search needs
+
+rounded-requires : tie.Need-rounded-requires
+rounded-requires c κs = let p = c .before in let s = start3 (p .before) in
+    let l = window.denominator-limits (F s) (s .pre .0 .readable) (s .args .earlier + (s .args .f .side - s .args .later)) in
+    (i-within (i-call (p .dot .ok) (p .dot .ensures) (window.dot-within (the-dots s))), omega (arith, l, over c), omega (arith, l, over c))
 
 returns : tie.Need-returns
-returns c = let i = c .before in let p = i .before .before in let s = start3 (p .before) in
+returns c = let q = c .before in let p = q .before in let s = start3 (p .before) in
     window.value-is (F s) (s .args .x .now) (s .args .t) (s .args .earlier) (s .args .later) (s .pre .0) (s .pre .1)
-    (s .args .f .middle) (kept (p .dot .ok) (p .dot .ensures)) (window.in-middle (F s) _ (i .if1 .taken)) (kept (c .rounded .ok) (c .rounded .ensures))
-
-returns-2 : tie.Need-returns-2
-returns-2 c = let i = c .before in let p = i .before .before in let s = start3 (p .before) in
-    window.value-is (F s) (s .args .x .now) (s .args .t) (s .args .earlier) (s .args .later) (s .pre .0) (s .pre .1)
-    (s .args .f .ends) (kept (p .dot .ok) (p .dot .ensures)) (window.at-ends (F s) _ (i .if1 .left)) (kept (c .rounded2 .ok) (c .rounded2 .ensures))
+    (q .denominator .result) (kept (p .dot .ok) (p .dot .ensures)) (over q) (kept (c .rounded .ok) (c .rounded .ensures))
 
 pub by-row-spec : {M : Type 1} → statement M
 by-row-spec =
@@ -80,7 +81,6 @@ by-row-spec =
     add-dot
     add-dot-2
     dot-requires
+    denominator-requires
     rounded-requires
-    rounded-requires-2
-    returns
-    returns-2)
+    returns)

@@ -1,0 +1,16 @@
+-- `filters::denominator` meets its contract.
+-- Assumes nothing.
+use mathlib.Core.List.{[]}
+use Rattle.filters.specs.Contracts.{tableOf}
+use Rattle.filters.proofs.Window as window
+use Rattle.filters.proofs.denominator.Statement.{statement}
+use Rattle.filters.proofs.denominator.Tie as tie
+
+returns : tie.Need-returns
+returns c = let s = c .before .before in window.in-middle (tableOf (s .args .f) []) (s .args .row) (c .if1 .taken)
+
+returns-2 : tie.Need-returns-2
+returns-2 c = let s = c .before .before in window.at-ends (tableOf (s .args .f) []) (s .args .row) (c .if1 .left)
+
+pub denominator-spec : {M : Type 1} → statement M
+denominator-spec = tie.close (tie.spec returns returns-2)
