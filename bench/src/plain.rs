@@ -9,13 +9,20 @@ use crate::{Answer, Lent};
 const UNIT: i64 = 1000;
 const FULL_WEIGHT: u16 = 1000;
 
-/// s / D to the nearest whole number, a half away from zero.
+/// More grains than any table can hold. With LIFT * d added a sum over d is never negative, and an unsigned division cuts it downwards.
+const LIFT: i64 = 1 << 42;
+
+/// s / D to the nearest whole number of grains, a half to the even one.
 fn nearest<const D: i64>(s: i64) -> i64 {
     nearest_of(s, D)
 }
 
+/// A half goes up first, and from an odd number back to the even one below. Only an even divisor has halves.
 fn nearest_of(s: i64, d: i64) -> i64 {
-    (2 * s + if s < 0 { -d } else { d }) / (2 * d)
+    let lifted = (s + d / 2 + LIFT * d) as u64;
+    let up = (lifted / d as u64) as i64 - LIFT;
+    let half = d % 2 == 0 && lifted % d as u64 == 0;
+    if half { up & !1 } else { up }
 }
 
 /// The sum of w[k] x[k * step].

@@ -107,3 +107,42 @@ pub fn up_and_down(start: u8, n: usize, units: i32, mut zero: impl FnMut(usize) 
     let turned = |t: usize| if (t + t / 12) % 2 == 0 { units } else { -units };
     Series { start, figures: (0..n).map(|t| if zero(t) { 0 } else { turned(t) }).collect() }
 }
+
+/// Any odd figures up to an odd size. Of small ones the spreads are small too, and many corrections and means come to exact halves of a grain,
+/// beside those of 2×12, of the end rows of 3×5 and, more rarely, of Henderson's filter.
+pub fn odd(seed: u64, n: usize, size: i64) -> Series {
+    let mut dice = Dice::new(seed);
+    let start = dice.between(1, 12) as u8;
+    Series { start, figures: within_limits((0..n).map(|_| 2 * dice.between(0, size) - size)) }
+}
+
+/// The same figure throughout, but for odd multiples of 500 units that are added to some of the first six months and of the last six, so many
+/// times at each end. What this moves of SI1 is mostly replaced in pass B. S1 is then 0, and many of Henderson's end rows come to exact halves of
+/// a grain.
+pub fn raised_ends(seed: u64, n: usize, figure: i32, times: usize) -> Series {
+    let mut dice = Dice::new(seed);
+    let mut series = flat(seed, n, figure, 0);
+    for end in [0, n - 6] {
+        for _ in 0..times {
+            series.figures[end + dice.between(0, 5) as usize] += 500 * (2 * dice.between(-9, 8) as i32 + 1);
+        }
+    }
+    series
+}
+
+/// Up and down by a few units, turning from month to month and from year to year; in three months of each twelve by 19 to 25 or, one time in
+/// seven, by nothing. With spreads near 10 values of these three get weights between 0 and 1,000, their neighbours are one to four, and some of
+/// the means come to exact halves of a grain.
+pub fn rough_months(seed: u64, n: usize) -> Series {
+    let mut dice = Dice::new(seed);
+    let start = dice.between(1, 12) as u8;
+    let figures = (0..n).map(|t| {
+        let size = match t % 12 {
+            3.. => dice.between(3, 9),
+            _ if dice.between(1, 7) == 1 => 0,
+            _ => dice.between(19, 25),
+        };
+        if (t + t / 12) % 2 == 0 { size } else { -size }
+    });
+    Series { start, figures: within_limits(figures) }
+}

@@ -1,6 +1,6 @@
 //! The plain program gives what ours gives, to the last entry of every lent slice.
 
-use bench::series::{at_the_limits, flat, flooded, ordinary, random, up_and_down, Dice, Series};
+use bench::series::{at_the_limits, flat, flooded, odd, ordinary, raised_ends, random, rough_months, up_and_down, Dice, Series};
 use bench::{ours, plain, Answer, Lent};
 
 /// Entries that no program leaves behind by chance.
@@ -114,6 +114,37 @@ fn runs_with_few_values_of_full_weight() {
                 agree(&format!("{n} months from {start}, {units} or one in {one_in} zero, disturbed"), &series);
             }
         }
+    }
+}
+
+// The next three meet exact halves of a grain (METHOD 1.3) in every rounding that can have them: of both signs, with odd and with even whole parts.
+
+#[test]
+fn halves_of_small_odd_figures() {
+    let mut dice = Dice::new(5);
+    for seed in 0..500 {
+        let n = dice.between(72, 600) as usize;
+        let size = [1, 3, 7, 15, 31, 63][seed as usize % 6];
+        agree(&format!("odd {seed}, {n} months"), &odd(seed, n, size));
+    }
+}
+
+#[test]
+fn halves_at_the_ends() {
+    let mut dice = Dice::new(6);
+    for seed in 0..300 {
+        let n = dice.between(72, 240) as usize;
+        let figure = [0, 3, -3, 4_001, -4_001, 100_000, -100_000][seed as usize % 7];
+        agree(&format!("raised ends {seed}, {n} months"), &raised_ends(seed, n, figure, dice.between(1, 3) as usize));
+    }
+}
+
+#[test]
+fn halves_of_means() {
+    let mut dice = Dice::new(7);
+    for seed in 0..500 {
+        let n = dice.between(72, if seed % 2 == 0 { 600 } else { 130 }) as usize;
+        agree(&format!("rough months {seed}, {n} months"), &rough_months(seed, n));
     }
 }
 

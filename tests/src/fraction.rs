@@ -78,7 +78,7 @@ impl Fraction {
     }
 
     /// The nearest whole number, a half away from zero.
-    pub fn nearest(&self) -> Whole {
+    pub fn nearest_away(&self) -> Whole {
         let (quotient, rest) = self.upper.quotient_of_sizes(&self.lower);
         let size = if rest.plus(&rest).compare(&self.lower) == Ordering::Less {
             quotient
@@ -145,7 +145,7 @@ mod tests {
         for (upper, lower, answer) in
             [(1, 2, 1), (-1, 2, -1), (49, 100, 0), (-49, 100, 0), (3, 2, 2), (-5, 2, -3), (7, 3, 2), (8, 3, 3)]
         {
-            assert_eq!(Fraction::new(upper, lower).nearest(), Whole::from(answer));
+            assert_eq!(Fraction::new(upper, lower).nearest_away(), Whole::from(answer));
         }
     }
 

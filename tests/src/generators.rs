@@ -1,6 +1,9 @@
 //! Series that are hard on an adjustment program, the same at every run.
 
+use crate::decompose::Tables;
+use crate::fraction::Fraction;
 use crate::pass::henderson;
+use crate::rounding::is_half;
 
 /// A small generator of numbers with a fixed seed (xorshift, then a multiply).
 pub struct Dice {
@@ -77,37 +80,77 @@ pub fn book_series() -> Vec<i32> {
     ]
 }
 
-/// Figures with small random values, used for ties: their sums meet halves
-/// of a grain often.
-pub fn small_random(seed: u64, n: usize) -> Vec<i32> {
+/// Random figures within a height, the start month 1 + seed mod 12.
+fn random_figures(name: &str, seed: u64, n: usize, high: i64) -> Case {
     let mut dice = Dice::new(seed);
-    (0..n).map(|_| dice.between(-40, 40) as i32).collect()
+    let start = (seed % 12 + 1) as u8;
+    let figures = (0..n).map(|_| dice.between(-high, high)).collect();
+    case(format!("{name}_seed{seed}_n{n}_s{start}"), start, figures)
 }
 
-/// Seeds of `small_random` with 72 months, start month 1 + seed mod 12, for
-/// which some Henderson sum at the ends falls exactly on a half grain; they
-/// were found by trying one seed after the other (`separate hunt`).
-pub const SEEDS_WITH_HALVES_AT_THE_ENDS: [u64; 7] = [44_128, 48_581, 50_420, 51_629, 94_819, 104_995, 137_578];
+/// 72 months of small random values, used for ties: their sums meet halves
+/// of a grain often.
+pub fn small_random(seed: u64) -> Case {
+    random_figures("halves", seed, 72, 40)
+}
 
-/// The same for the thirteen-term Henderson sums.
+/// 72 to 120 months of values so small that corrections and means often fall
+/// on halves too.
+pub fn smaller_random(seed: u64) -> Case {
+    random_figures("ties", seed, 72 + (seed % 49) as usize, 3)
+}
+
+/// Seeds of `small_random` for which some Henderson sum at the ends falls
+/// exactly on a half grain; they were found by trying one seed after the
+/// other (`separate hunt`).  Four each for T2 of pass B, of C, of D and for
+/// D12: above zero with an even and with an odd grain below, then below zero.
+pub const SEEDS_WITH_HALVES_AT_THE_ENDS: [u64; 16] = [
+    219_808, 309_025, 54_604, 48_581, 94_819, 273_572, 94_672, 167_550, 50_420, 74_605, 68_050, 816_246, 265_602,
+    188_267, 127_287, 102_169,
+];
+
+/// The same for the thirteen-term Henderson sums, in no order of kinds.
 pub const SEEDS_WITH_HALVES_IN_THE_MIDDLE: [u64; 14] =
-    [64, 269, 295, 355, 411, 443, 524, 577, 8_184, 14_178, 17_026, 22_869, 29_054, 30_338];
+    [64, 269, 355, 388, 411, 443, 524, 577, 8_184, 14_178, 17_026, 22_869, 29_054, 30_338];
 
-/// How many Henderson sums over a series fall on a half: those with all
-/// thirteen terms, and those at the ends.
-pub fn henderson_halves(series: &[i64]) -> (usize, usize) {
-    let n = series.len();
-    let (mut middle, mut ends) = (0, 0);
-    for (t, &(upper, lower)) in henderson(series).values.iter().enumerate() {
-        if (2 * upper).rem_euclid(2 * lower) == lower {
-            if t >= 6 && t + 6 < n {
-                middle += 1;
-            } else {
-                ends += 1;
+/// Seeds of `smaller_random` that meet sixty halves and more in all, and one
+/// in the thirteen-term Henderson sums: tables and kinds as at the ends.
+pub const SEEDS_WITH_MANY_HALVES: [u64; 16] = [
+    4_963, 38_766, 41_422, 29_205, 47_607, 46_540, 26_474, 32_077, 7_736, 29_568, 24_191, 47_069, 11_384, 44_641, 23_777,
+    29_814,
+];
+
+/// The Henderson sums of a working that fall on a half: table, month and sum.
+pub fn henderson_halves(tables: &Tables) -> Vec<(&'static str, usize, Fraction)> {
+    let adjusted = tables.d1.iter().zip(&tables.d10).map(|(d1, d10)| d1 - d10).collect();
+    let mut list = Vec::new();
+    for (name, series) in [
+        ("B T2", &tables.b.a1.values),
+        ("C T2", &tables.c.a1.values),
+        ("D T2", &tables.d.a1.values),
+        ("D D12", &adjusted),
+    ] {
+        for (t, &(upper, lower)) in henderson(series).values.iter().enumerate() {
+            if is_half(upper, lower) {
+                list.push((name, t, Fraction::new(upper, lower)));
             }
         }
     }
-    (middle, ends)
+    list
+}
+
+/// Series whose sums meet many halves of a grain: straight lines from one
+/// side of zero to the other, from which the Henderson rows at the ends lie
+/// off by halves, and random ones from every start month.
+pub fn ties() -> Vec<Case> {
+    let mut list = Vec::new();
+    for (index, slope) in [100, 125, 250, 500, -100, -125, -250, -500].into_iter().enumerate() {
+        let (n, start) = (72 + 6 * index, index as u8 + 3);
+        let line = (0..n).map(|t| slope * (t as i64 - n as i64 / 2)).collect();
+        list.push(case(format!("ties_line_{slope}_n{n}_s{start}"), start, line));
+    }
+    list.extend(SEEDS_WITH_MANY_HALVES.into_iter().map(smaller_random));
+    list
 }
 
 /// The month from 0 to 11 that place t of a series is, January being 0.
@@ -305,11 +348,9 @@ pub fn cases() -> Vec<Case> {
         list.push(case(format!("small_{high}_{round}_n{n}_s{start}"), start, figures));
     }
     // Ties at half grains.
-    for seed in SEEDS_WITH_HALVES_IN_THE_MIDDLE.into_iter().chain(SEEDS_WITH_HALVES_AT_THE_ENDS) {
-        let start = (seed % 12 + 1) as u8;
-        let figures = small_random(seed, 72).into_iter().map(i64::from).collect();
-        list.push(case(format!("halves_seed{seed}_n72_s{start}"), start, figures));
-    }
+    let seeds = SEEDS_WITH_HALVES_IN_THE_MIDDLE.into_iter().chain(SEEDS_WITH_HALVES_AT_THE_ENDS);
+    list.extend(seeds.map(small_random));
+    list.extend(ties());
 
     // Every start month with every short length, and the long lengths.
     for n in (72..=84).chain([114, 599, 600]) {

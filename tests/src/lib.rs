@@ -1,8 +1,8 @@
 //! Additive X-11 seasonal adjustment of one monthly series, and the desk
 //! file, worked from document 01 ("Exact scope and rules for the additive
-//! X-11 desk") and request 1/12 of document 02 alone.  It is meant to stand
-//! beside another program: the two are given the same series and their
-//! tables are compared.
+//! X-11 desk") and requests 1/12 and 2/12 of document 02 alone.  It is meant
+//! to stand beside another program: the two are given the same series and
+//! their tables are compared.
 //!
 //! Plainness comes before speed.  Every filter first gives exact fractions;
 //! a table of fractions is then rounded once.  Months are found by their
@@ -20,6 +20,7 @@ pub mod fraction;
 pub mod generators;
 pub mod pass;
 pub mod print;
+pub mod rounding;
 pub mod rows;
 pub mod spread;
 pub mod whole;

@@ -11,7 +11,7 @@ use separate::desk::{bytes_of, write};
 use separate::exact::{distance, exact_pass, exact_working, FourDistances};
 use separate::exact_b::{exact_pass_b, DistanceB};
 use separate::extremes::Extremes;
-use separate::generators::{cases, grain_cases, henderson_halves, small_random};
+use separate::generators::{cases, grain_cases, henderson_halves, small_random, smaller_random};
 use separate::pass::{pass, Steps};
 use separate::print::printed;
 use separate::rows::{henderson_centre, musgrave_exact, musgrave_millionths, three_by_five, three_by_three};
@@ -34,7 +34,7 @@ separate rows              the filter rows
 separate cases             all made-up series, one a line: name start figures
 separate case NAME         one of them, figures only
 separate graincases        all made-up series of grains, one a line: name grains
-separate hunt FROM TO      seeds whose Henderson sums meet halves of a grain
+separate hunt FROM TO      Henderson sums on a half in the series of these seeds: name pass table t sum
 ";
 
 fn main() -> ExitCode {
@@ -296,19 +296,12 @@ fn print_rows() -> String {
 
 fn hunt(from: u64, to: u64) -> String {
     let mut text = String::new();
-    for seed in from..to {
-        let start = (seed % 12 + 1) as u8;
-        let Ok(tables) = decompose_fitting(&small_random(seed, 72), start) else {
+    for case in (from..to).flat_map(|seed| [small_random(seed), smaller_random(seed)]) {
+        let Ok(tables) = decompose_fitting(&case.figures, case.start) else {
             continue;
         };
-        let last: Vec<i64> = tables.d1.iter().zip(&tables.d10).map(|(a, b)| a - b).collect();
-        let mut found = (0, 0);
-        for series in [&tables.b.a1.values, &tables.c.a1.values, &tables.d.a1.values, &last] {
-            let (middle, ends) = henderson_halves(series);
-            found = (found.0 + middle, found.1 + ends);
-        }
-        if found != (0, 0) {
-            text.push_str(&format!("{seed} middle {} ends {}\n", found.0, found.1));
+        for (table, t, sum) in henderson_halves(&tables) {
+            text.push_str(&format!("{} {table} {t} {sum}\n", case.name));
         }
     }
     text

@@ -1,19 +1,11 @@
 //! One pass with its steps.  Each filter gives a table of exact fractions,
-//! which is then rounded once to whole grains.
+//! which is then rounded once to whole grains, a half to the even one.
 
 use crate::calendar::{labels, run, Label};
 use crate::decompose::Refusal;
 use crate::extremes::Extremes;
+use crate::rounding::{is_half, nearest_even};
 use crate::rows::{henderson_at, three_by_five, three_by_three};
-
-/// The nearest whole number to upper over lower (above zero), a half away
-/// from zero.
-pub fn nearest(upper: i128, lower: i128) -> i64 {
-    assert!(lower > 0);
-    let size = (2 * upper.abs() + lower) / (2 * lower);
-    let signed = if upper < 0 { -size } else { size };
-    i64::try_from(signed).expect("a table value of reasonable size")
-}
 
 /// A table of grains that begins at some month of the series.
 #[derive(Clone, Debug, PartialEq, Eq)]
@@ -56,14 +48,15 @@ pub struct Fractions {
 }
 
 impl Fractions {
+    /// Each fraction rounded to a grain.
     pub fn rounded(&self) -> Placed {
-        let values = self.values.iter().map(|&(upper, lower)| nearest(upper, lower)).collect();
+        let values = self.values.iter().map(|&(upper, lower)| nearest_even(upper, lower)).collect();
         Placed { first: self.first, values }
     }
 
     /// How many fractions lie exactly half way between two grains.
     pub fn halves(&self) -> usize {
-        self.values.iter().filter(|&&(upper, lower)| (2 * upper).rem_euclid(2 * lower) == lower).count()
+        self.values.iter().filter(|&&(upper, lower)| is_half(upper, lower)).count()
     }
 }
 
@@ -313,19 +306,10 @@ mod tests {
     use super::*;
 
     #[test]
-    fn nearest_whole_numbers() {
-        for (upper, lower, answer) in
-            [(1, 2, 1), (-1, 2, -1), (5, 10, 1), (-5, 10, -1), (49, 100, 0), (12, 24, 1), (36, 24, 2), (-36, 24, -2)]
-        {
-            assert_eq!(nearest(upper, lower), answer);
-        }
-    }
-
-    #[test]
-    fn halves_are_counted() {
+    fn halves_are_counted_and_go_to_the_even_grain() {
         let table = Fractions { first: 0, values: vec![(12, 24), (-12, 24), (36, 24), (24, 24), (13, 24), (-36, 24)] };
         assert_eq!(table.halves(), 4);
-        assert_eq!(table.rounded().values, vec![1, -1, 2, 1, 1, -2]);
+        assert_eq!(table.rounded().values, vec![0, 0, 2, 1, 1, -2]);
     }
 
     #[test]

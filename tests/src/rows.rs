@@ -112,7 +112,7 @@ pub fn musgrave_millionths(f: usize) -> &'static [i128] {
                     .iter()
                     .map(|weight| {
                         let millionths = weight.times(&Fraction::whole(MILLION));
-                        millionths.nearest().to_i128().expect("a small number")
+                        millionths.nearest_away().to_i128().expect("a small number")
                     })
                     .collect();
                 let mut others = 0;

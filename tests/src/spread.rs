@@ -2,7 +2,7 @@
 
 use crate::calendar::{by_year, group, year_of_the_group, Label};
 use crate::decompose::Refusal;
-use crate::pass::nearest;
+use crate::rounding::{nearest_away, nearest_even};
 
 /// The greatest whole number whose square is not above the operand.
 /// Binary digits are tried from the top.
@@ -20,7 +20,7 @@ pub fn root(operand: u128) -> u128 {
 
 /// Grains to whole units, a half away from zero.
 pub fn units(grains: i64) -> i64 {
-    nearest(i128::from(grains), 1000)
+    nearest_away(i128::from(grains), 1000)
 }
 
 /// The spread of some sizes: the root of the whole part of the mean square.
@@ -96,9 +96,9 @@ pub fn weights(irregular: &[i64], labels: &[Label]) -> Result<Vec<u16>, Refusal>
 }
 
 /// The correction of a month in grains: its irregular times 1,000 less its
-/// weight, over 1,000, rounded once.
+/// weight, over 1,000, rounded once, a half to the even grain.
 pub fn correction(irregular: i64, weight: u16) -> i64 {
-    nearest(i128::from(irregular) * (1000 - i128::from(weight)), 1000)
+    nearest_even(i128::from(irregular) * (1000 - i128::from(weight)), 1000)
 }
 
 #[cfg(test)]

@@ -4,9 +4,9 @@
 use separate::calendar::labels;
 use separate::decompose::{decompose_fitting, Tables};
 use separate::extremes::{neighbours, replaced_run, replacement, Extremes, RunValue};
-use separate::fraction::Fraction;
 use separate::generators::{cases, extremes_from_every_start, flooded_januaries, months_far_off, smooth, Case, FLOOD, PLAIN_SEASONAL};
-use separate::pass::{ends_repeated, henderson, nearest, pass, seasonal_3x3, seasonal_3x5, two_by_twelve, Placed, RunFilter};
+use separate::pass::{ends_repeated, henderson, pass, seasonal_3x3, seasonal_3x5, two_by_twelve, Placed, RunFilter};
+use separate::rounding::nearest_even;
 use separate::spread::{correction, two_spreads, units, weight, weights};
 use std::collections::BTreeSet;
 
@@ -22,7 +22,7 @@ fn weighing(weights: &[u16]) -> Vec<RunValue> {
 
 /// The whole run, rounded.
 fn replaced(values: &[(i64, u16)]) -> Vec<i64> {
-    replaced_run(&run_of(values)).iter().map(|found| nearest(found.mean.0, found.mean.1)).collect()
+    replaced_run(&run_of(values)).iter().map(|found| nearest_even(found.mean.0, found.mean.1)).collect()
 }
 
 #[test]
@@ -83,11 +83,18 @@ fn the_mean_takes_the_value_at_its_weight() {
 }
 
 #[test]
-fn the_mean_is_rounded_once_a_half_away_from_zero() {
-    assert_eq!(replaced(&[(0, 1000), (1, 1000), (90, 0), (1, 1000), (0, 1000)])[2], 1);
-    assert_eq!(replaced(&[(0, 1000), (-1, 1000), (90, 0), (-1, 1000), (0, 1000)])[2], -1);
+fn the_mean_is_rounded_once_a_half_to_the_even_grain() {
+    assert_eq!(replaced(&[(0, 1000), (1, 1000), (90, 0), (1, 1000), (0, 1000)])[2], 0);
+    assert_eq!(replaced(&[(0, 1000), (-1, 1000), (90, 0), (-1, 1000), (0, 1000)])[2], 0);
     assert_eq!(replaced(&[(0, 1000), (1, 1000), (90, 0), (0, 1000), (0, 1000)])[2], 0);
-    assert_eq!(replaced(&[(3, 1000), (3, 1000), (90, 0), (2, 1000), (2, 1000)])[2], 3);
+    assert_eq!(replaced(&[(1, 1000), (1, 1000), (90, 0), (2, 1000), (2, 1000)])[2], 2);
+    assert_eq!(replaced(&[(3, 1000), (3, 1000), (90, 0), (2, 1000), (2, 1000)])[2], 2);
+    assert_eq!(replaced(&[(-1, 1000), (-1, 1000), (90, 0), (-2, 1000), (-2, 1000)])[2], -2);
+    assert_eq!(replaced(&[(-3, 1000), (-3, 1000), (90, 0), (-2, 1000), (-2, 1000)])[2], -2);
+    // The value at 200 with three neighbours of 0: 1,600 over 3,200, then 4,800 and 8,000.
+    for (value, mean) in [(8, 0), (24, 2), (40, 2), (-8, 0), (-24, -2), (-40, -2)] {
+        assert_eq!(replaced(&[(value, 200), (0, 1000), (0, 1000), (0, 1000)])[0], mean);
+    }
     // (500 x 1 + 1,000 x 1) over 2,500 with one neighbour 1 and one 0: 0.6.
     assert_eq!(replaced(&[(1, 1000), (1, 500), (0, 1000)])[1], 1);
 }
@@ -197,6 +204,12 @@ fn weights_by_division(irregular: &Placed, start: u8) -> Vec<u16> {
     list
 }
 
+/// Whether a fraction is rounded to this grain: none lies nearer, and of two that lie as near it is the even one.
+fn is_rounded_to(grain: i64, upper: i128, lower: i128) -> bool {
+    let twice_off = 2 * (upper - lower * i128::from(grain)).abs();
+    twice_off < lower || (twice_off == lower && grain % 2 == 0)
+}
+
 fn check_extremes(name: &str, si: &Placed, filter: RunFilter, start: u8, ours: &Extremes, found: &mut Found) {
     let (first, last) = (si.first, si.last());
     let r = filter(si).rounded();
@@ -212,18 +225,16 @@ fn check_extremes(name: &str, si: &Placed, filter: RunFilter, start: u8, ours: &
             months = walked(t, first, last, |s| weights[s - first] == 1000, found);
         }
         assert_eq!(ours.neighbours[t - first], months, "{name} month {t}");
-        let mut sum = Fraction::whole(i128::from(own) * i128::from(si.at(t)));
-        for &s in &months {
-            sum = sum.plus(&Fraction::whole(1000 * i128::from(si.at(s))));
-        }
-        let mut expected = si.at(t);
-        if !months.is_empty() {
-            let all = Fraction::whole(i128::from(own) + 1000 * months.len() as i128);
-            expected = i64::try_from(sum.over(&all).nearest().to_i128().unwrap()).unwrap();
+        let replaced = ours.replaced.at(t);
+        if months.is_empty() {
+            assert_eq!(replaced, si.at(t), "{name} month {t}");
+        } else {
+            let neighbours: i128 = months.iter().map(|&s| i128::from(si.at(s))).sum();
+            let sum = i128::from(own) * i128::from(si.at(t)) + 1000 * neighbours;
+            assert!(is_rounded_to(replaced, sum, i128::from(own) + 1000 * months.len() as i128), "{name} month {t}");
             found.parts += usize::from(own > 0);
         }
-        assert_eq!(ours.replaced.at(t), expected, "{name} month {t}");
-        found.changed += usize::from(expected != si.at(t));
+        found.changed += usize::from(replaced != si.at(t));
     }
 }
 
@@ -338,7 +349,7 @@ fn weights_of_zero_at_both_ends_of_a_run() {
                 continue;
             }
             ends[count] += 1;
-            let mean = |months: &[usize]| nearest(months.iter().map(|&t| i128::from(si.at(t))).sum(), 3);
+            let mean = |months: &[usize]| nearest_even(months.iter().map(|&t| i128::from(si.at(t))).sum(), 3);
             assert_eq!(extremes.neighbours[first - si.first], full[..3], "{}", case.name);
             assert_eq!(extremes.replaced.at(first), mean(&full[..3]), "{}", case.name);
             assert_eq!(extremes.neighbours[last - si.first], full[full.len() - 3..], "{}", case.name);

@@ -7,7 +7,8 @@ use separate::exact::{distance, exact_pass, exact_working, FourDistances};
 use separate::exact_b::{exact_pass_b, DistanceB, Held};
 use separate::fraction::Fraction;
 use separate::generators::{
-    cases, grain_cases, henderson_halves, small_random, SEEDS_WITH_HALVES_AT_THE_ENDS, SEEDS_WITH_HALVES_IN_THE_MIDDLE,
+    cases, grain_cases, henderson_halves, small_random, smaller_random, Case, SEEDS_WITH_HALVES_AT_THE_ENDS,
+    SEEDS_WITH_HALVES_IN_THE_MIDDLE, SEEDS_WITH_MANY_HALVES,
 };
 use separate::pass::pass;
 
@@ -47,7 +48,7 @@ fn every_case_adds_back_and_keeps_its_distance() {
     assert!(partly > 100);
     // 27ths never meet a half; all others do.
     assert_eq!(halves[1], 0);
-    for index in [0, 2, 3, 4, 5] {
+    for index in [0, 2, 3, 4, 5, 6] {
         assert!(halves[index] > 0);
     }
 }
@@ -131,23 +132,29 @@ fn with_nothing_held_pass_b_is_a_plain_pass() {
     }
 }
 
+/// The Henderson sums of a series that fall on a half: the table, whether it
+/// is in the middle, and the kind of half, from 0 to 3 (above zero with an
+/// even and with an odd grain below, then below zero).
+fn henderson_kinds(case: &Case) -> Vec<(&'static str, bool, usize)> {
+    let tables = decompose_fitting(&case.figures, case.start).unwrap();
+    let middle = 6..case.figures.len() - 6;
+    let kind = |sum: &Fraction| {
+        let twice = sum.upper().to_i128().unwrap();
+        2 * usize::from(twice < 0) + usize::from(twice.div_euclid(2) % 2 != 0)
+    };
+    henderson_halves(&tables).iter().map(|(table, t, sum)| (*table, middle.contains(t), kind(sum))).collect()
+}
+
 #[test]
 fn the_seeds_meet_halves_in_henderson_sums() {
-    let count = |seed: u64| {
-        let tables = decompose_fitting(&small_random(seed, 72), (seed % 12 + 1) as u8).unwrap();
-        let last: Vec<i64> = tables.d1.iter().zip(&tables.d10).map(|(a, b)| a - b).collect();
-        let mut found = (0, 0);
-        for series in [&tables.b.a1.values, &tables.c.a1.values, &tables.d.a1.values, &last] {
-            let (middle, ends) = henderson_halves(series);
-            found = (found.0 + middle, found.1 + ends);
-        }
-        found
-    };
     for seed in SEEDS_WITH_HALVES_IN_THE_MIDDLE {
-        assert!(count(seed).0 > 0, "seed {seed}");
+        assert!(henderson_kinds(&small_random(seed)).iter().any(|&(_, middle, _)| middle), "seed {seed}");
     }
-    for seed in SEEDS_WITH_HALVES_AT_THE_ENDS {
-        assert!(count(seed).1 > 0, "seed {seed}");
+    for index in 0..16 {
+        let (table, kind) = (["B T2", "C T2", "D T2", "D D12"][index / 4], index % 4);
+        let (at_the_ends, in_the_middle) = (SEEDS_WITH_HALVES_AT_THE_ENDS[index], SEEDS_WITH_MANY_HALVES[index]);
+        assert!(henderson_kinds(&small_random(at_the_ends)).contains(&(table, false, kind)), "seed {at_the_ends}");
+        assert!(henderson_kinds(&smaller_random(in_the_middle)).contains(&(table, true, kind)), "seed {in_the_middle}");
     }
 }
 

@@ -1,11 +1,12 @@
-//! Every line of the section "Pencil cases" of document 01, and the example
-//! of "Start month 10 with n 114".
+//! Every line of the section "Pencil cases" of document 01, as request 2/12
+//! of document 02 leaves them, and the example of "Start month 10 with n 114".
 
 use separate::calendar::labels;
 use separate::decompose::{decompose_fitting, Refusal};
 use separate::fraction::Fraction;
-use separate::pass::{henderson, nearest, seasonal_3x3, seasonal_3x5, two_by_twelve, Placed};
-use separate::spread::{correction, spreads_by_year, two_spreads, weight, weights};
+use separate::pass::{henderson, seasonal_3x3, seasonal_3x5, two_by_twelve, Placed};
+use separate::rounding::{nearest_away, nearest_even};
+use separate::spread::{correction, spreads_by_year, two_spreads, units, weight, weights};
 use separate::whole::Whole;
 
 #[test]
@@ -91,10 +92,22 @@ fn three_by_five_of_a_run_beginning_with_60_000() {
 
 #[test]
 fn rounding_of_halves() {
-    assert_eq!(nearest(1, 2), 1);
-    assert_eq!(nearest(-1, 2), -1);
-    assert_eq!(Fraction::new(1, 2).nearest(), Whole::from(1));
-    assert_eq!(Fraction::new(-1, 2).nearest(), Whole::from(-1));
+    assert_eq!(nearest_even(1, 2), 0);
+    assert_eq!(nearest_even(-1, 2), 0);
+    assert_eq!(nearest_even(3, 2), 2);
+    assert_eq!(nearest_even(-3, 2), -2);
+}
+
+/// Millionths, whole units and the quotient of a weight keep the old rule.
+#[test]
+fn rounding_of_other_halves() {
+    assert_eq!(nearest_away(1, 2), 1);
+    assert_eq!(nearest_away(-1, 2), -1);
+    assert_eq!(Fraction::new(1, 2).nearest_away(), Whole::from(1));
+    assert_eq!(Fraction::new(-1, 2).nearest_away(), Whole::from(-1));
+    assert_eq!((units(500), units(-500), units(2_500), units(-2_500)), (1, -1, 3, -3));
+    // 1,000 x 27 / 16 is 1,687.5 and 1,000 x 29 / 16 is 1,812.5: both up.
+    assert_eq!((weight(27, 16), weight(29, 16)), (812, 687));
 }
 
 #[test]
@@ -113,8 +126,11 @@ fn weight_with_spread_3() {
 
 #[test]
 fn correction_of_500_grains() {
+    // 83.5 lies between 83 and 84; 82.5, at weight 835, between 82 and 83.
     assert_eq!(correction(500, 833), 84);
     assert_eq!(correction(-500, 833), -84);
+    assert_eq!(correction(500, 835), 82);
+    assert_eq!(correction(-500, 835), -82);
     assert_eq!(correction(500, 1000), 0);
     assert_eq!(correction(500, 0), 500);
 }

@@ -1,17 +1,17 @@
--- Laws of the two roundings: the distance is at most half, the size that of the fraction; and how the code works them.
-use mathlib.Core.Path.{_≡_, refl, sym, ap, subst, _∙_}
+-- Laws of the roundings: the distance is at most half, the size that of the fraction; what settles `toGrain`; and how the code works them.
+use mathlib.Core.Path.{_≡_, refl, sym, ap, subst, subst⁻¹, _∙_}
 use mathlib.Core.Bool.{Bool, true, false, not, cond}
-use Prim.Native.Nat.{ℕ, suc, _+_, _*_, _/_, _<_, _≤_}
-use native.Mathlib.Nat.{div-add-mod, mod-lt, le-of-mul-le-mul-left}
+use Prim.Native.Nat.{ℕ, zero, suc, _+_, _*_, _-_, _/_, _%_, _<_, _≤_}
+use native.Mathlib.Nat.{add-zero, div-add-mod, mod-lt, le-of-mul-le-mul-left}
 use native.Mathlib.Omega.{arith}
-use lib.Dec.{T, ltb→lt}
-use lib.IntN.{ℤ, pos, negsuc, negℤ, natAbs, _+ℤ_, _-ℤ_, _*ℤ_}
+use lib.Dec.{T, ltb, ltb→lt, nltb→le}
+use lib.IntN.{ℤ, pos, negsuc, negℤ, natAbs, _+ℤ_, _-ℤ_, _*ℤ_, +ℤ-negℤ-cancel}
 use lib.Signed.{quotZ, ltZ, _<ℤ_, _≤ℤ_, ltZ-yes, ltZ-no}
-use Rattle.integers.proofs.Differences.{rep, ringℤ}
+use Rattle.integers.proofs.Differences.{_⊖_, pp, nn, ⊖-eq, rep, ringℤ}
 use Rattle.integers.specs.Sizes.{_within_}
-use Rattle.integers.proofs.SizeLaws.{by-abs, abs-⊖, abs-mul, w-lit, w+, w-, w*}
-use Rattle.integers.specs.Rounding.{halfUp, awayFromZero, toGrain}
-use Rattle.integers.specs.Contracts.{farther}
+use Rattle.integers.proofs.SizeLaws.{by-abs, abs-⊖, abs-neg, abs-mul, w-lit, w+, w-, w*}
+use Rattle.integers.specs.Rounding.{halfUp, awayFromZero, halfToEven, toGrain, NearestEven, ToGrainSettled}
+use Rattle.integers.specs.Contracts.{farther, Below}
 
 -- ---- the nearest whole number
 halfUp-low : (n d : ℕ) → 2 * (d * halfUp n d) ≤ 2 * n + d
@@ -22,21 +22,102 @@ halfUp-high : (n d : ℕ) → 0 < d → 2 * n ≤ 2 * (d * halfUp n d) + d
 unfolding halfUp
 halfUp-high n d h = omega (arith, div-add-mod (2 * n + d) (2 * d), mod-lt (2 * n + d) {m = 2 * d} (omega arith))
 
--- ---- at most half a step away, whatever the rounding does with a half
-above : (n q d : ℕ) → 2 * (d * q) ≤ 2 * n + d → 2 * n ≤ 2 * (d * q) + d → 2 * natAbs (pos d *ℤ pos q -ℤ pos n) ≤ d
-above n q d h k = simp (ringℤ, abs-⊖) (omega arith)
+-- ---- at most half a step away, whatever the rounding does with a half: a size, and the mirrored one
+apart-mirrored : (d : ℕ) (r x : ℤ) → natAbs (pos d *ℤ negℤ r -ℤ negℤ x) ≡ natAbs (pos d *ℤ r -ℤ x)
+apart-mirrored d r x = rw (rep x, rep r) (simp (ringℤ, abs-⊖) (omega arith))
 
-below : (n q d : ℕ) → 2 * (d * q) ≤ 2 * n + d → 2 * n ≤ 2 * (d * q) + d → 2 * natAbs (pos d *ℤ negℤ (pos q) -ℤ negℤ (pos n)) ≤ d
-below n q d h k = simp (ringℤ, abs-⊖) (omega arith)
+halfUp-near : (n d : ℕ) → 0 < d → 2 * natAbs (pos d *ℤ pos (halfUp n d) -ℤ pos n) ≤ d
+halfUp-near n d h = simp (ringℤ, abs-⊖) (omega (arith, halfUp-low n d, halfUp-high n d h))
 
 pub awayFromZero-near : (x : ℤ) (d : ℕ) → 0 < d → 2 * natAbs (pos d *ℤ awayFromZero x d -ℤ x) ≤ d
 unfolding awayFromZero
-awayFromZero-near (pos n) d h = above n (halfUp n d) d (halfUp-low n d) (halfUp-high n d h)
-awayFromZero-near (negsuc n) d h = below (suc n) (halfUp (suc n) d) d (halfUp-low (suc n) d) (halfUp-high (suc n) d h)
+awayFromZero-near (pos n) d h = halfUp-near n d h
+awayFromZero-near (negsuc n) d h = omega (arith, apart-mirrored d (pos (halfUp (suc n) d)) (pos (suc n)), halfUp-near (suc n) d h)
+
+-- ---- a whole part b and a rest: b is the number, or one more is
+stays : (b : ℤ) (d rest : ℕ) → 2 * rest ≤ d → (2 * rest ≡ d → natAbs b % 2 ≡ 0) → NearestEven (pos d *ℤ b +ℤ pos rest) d b
+stays b d rest h e = record { near = omega (arith, apart); even = λ t. e (omega (arith, apart, t)) }
+  where
+    apart : natAbs (pos d *ℤ b -ℤ (pos d *ℤ b +ℤ pos rest)) ≡ rest
+    apart = rw (rep b) (simp (ringℤ, abs-⊖) (omega arith))
+
+one-more : (b : ℤ) (d rest : ℕ) → rest ≤ d → d ≤ 2 * rest → (2 * rest ≡ d → natAbs (b +ℤ pos 1) % 2 ≡ 0) → NearestEven (pos d *ℤ b +ℤ pos rest) d (b +ℤ pos 1)
+one-more b d rest l h e = record { near = omega (arith, apart); even = λ t. e (omega (arith, apart, t)) }
+  where
+    apart : natAbs (pos d *ℤ (b +ℤ pos 1) -ℤ (pos d *ℤ b +ℤ pos rest)) ≡ d - rest
+    apart = rw (rep b) (simp (ringℤ, abs-⊖) (omega arith))
+
+odd-next : (b : ℤ) → natAbs b % 2 ≡ 1 → natAbs (b +ℤ pos 1) % 2 ≡ 0
+odd-next b h = subst⁻¹ (λ (z : ℤ). natAbs z % 2 ≡ 1 → natAbs (z +ℤ pos 1) % 2 ≡ 0) (rep b) (go (pp b) (nn b)) h
+  where
+    go : (a c : ℕ) → natAbs (a ⊖ c) % 2 ≡ 1 → natAbs (a ⊖ c +ℤ pos 1) % 2 ≡ 0
+    go a c h =
+        let e : natAbs (a ⊖ c +ℤ pos 1) ≡ (a + 1 - c) + (c - (a + 1)) = simp (ringℤ, abs-⊖) (omega arith) in
+        omega (arith, e, abs-⊖ a c, div-add-mod (natAbs (a ⊖ c)) 2, div-add-mod (natAbs (a ⊖ c +ℤ pos 1)) 2, mod-lt (natAbs (a ⊖ c +ℤ pos 1)) {m = 2} (omega arith))
+
+-- ---- toGrain gives such a number
+size-settled : (n d : ℕ) → 0 < d → NearestEven (pos n) d (pos (halfToEven n d))
+unfolding halfToEven
+size-settled n d h = subst (λ (k : ℕ). NearestEven (pos k) d (pos (halfToEven n d))) (div-add-mod n d)
+    (go (ltb (2 * (n % d)) d) (ltb d (2 * (n % d))) (λ t. ltb→lt (2 * (n % d)) d t) (λ t. nltb→le (2 * (n % d)) d t) (λ t. ltb→lt d (2 * (n % d)) t) (λ t. nltb→le d (2 * (n % d)) t))
+  where
+    less : n % d < d
+    less = mod-lt n {m = d} h
+
+    -- the whole part is even, or one more is
+    even-one : (p : ℕ) → (n / d) % 2 ≡ p → 2 * (n % d) ≡ d → NearestEven (pos (d * (n / d) + n % d)) d (pos (n / d + p))
+    even-one zero e t = rw (add-zero (n / d)) (stays (pos (n / d)) d (n % d) (omega arith) (λ _. e))
+    even-one (suc zero) e t = one-more (pos (n / d)) d (n % d) (omega arith) (omega arith) (λ _. odd-next (pos (n / d)) e)
+    even-one (suc (suc p)) e t = absurd (omega (arith, mod-lt (n / d) {m = 2} (omega arith)))
+
+    go : (a b : Bool) → (T a → 2 * (n % d) < d) → (T (not a) → d ≤ 2 * (n % d)) → (T b → d < 2 * (n % d)) → (T (not b) → 2 * (n % d) ≤ d)
+        → NearestEven (pos (d * (n / d) + n % d)) d (pos (cond a (n / d) (cond b (n / d + 1) (n / d + (n / d) % 2))))
+    go true b f g k l = let h : 2 * (n % d) < d = f tt in stays (pos (n / d)) d (n % d) (omega arith) (λ t. absurd (omega arith))
+    go false true f g k l = let h : d < 2 * (n % d) = k tt in one-more (pos (n / d)) d (n % d) (omega (arith, less)) (omega arith) (λ t. absurd (omega arith))
+    go false false f g k l = even-one ((n / d) % 2) refl (omega (arith, g tt, l tt))
+
+mirrored : {x r : ℤ} {d : ℕ} → NearestEven x d r → NearestEven (negℤ x) d (negℤ r)
+mirrored {x} {r} {d} h = record { near = omega (arith, apart-mirrored d r x, h .near); even = λ t. rw abs-neg (h .even (omega (arith, apart-mirrored d r x, t))) }
+
+toGrain-one : (x : ℤ) (d : ℕ) → 0 < d → NearestEven x d (toGrain x d)
+unfolding toGrain
+toGrain-one (pos n) d h = size-settled n d h
+toGrain-one (negsuc n) d h = mirrored (size-settled (suc n) d h)
+
+-- ---- and there is no other: two of them are at most one apart, and one apart both would lie on the half, one odd
+gap : (a b u v d : ℕ) → natAbs (pos d *ℤ (a ⊖ b) -ℤ (u ⊖ v)) ≡ (d * a + v - (d * b + u)) + (d * b + u - (d * a + v))
+gap a b u v d = simp (ringℤ, abs-⊖) (omega arith)
+
+no-more : (a b c e u v d : ℕ) → 0 < d → NearestEven (u ⊖ v) d (a ⊖ b) → NearestEven (u ⊖ v) d (c ⊖ e) → a + e ≤ c + b
+no-more a b c e u v d d0 p q =
+    let l : d * (a + e) ≤ d * (c + b + 1) = omega (arith, p .near, q .near, gap a b u v d, gap c e u v d) in
+    let m : a + e ≤ c + b + 1 = le-of-mul-le-mul-left l d0 in
+    go (ltb (c + b) (a + e)) (λ t. ltb→lt (c + b) (a + e) t) (λ t. nltb→le (c + b) (a + e) t) m
+  where
+    go : (x : Bool) → (T x → c + b < a + e) → (T (not x) → a + e ≤ c + b) → a + e ≤ c + b + 1 → a + e ≤ c + b
+    go true f g m =
+        let l : c + b < a + e = f tt in
+        let i : a + e ≡ c + b + 1 = omega arith in
+        let j : d * (a + e) ≡ d * (c + b + 1) = ap (λ (k : ℕ). d * k) i in
+        let one : natAbs (a ⊖ b) % 2 ≡ 0 = p .even (omega (arith, p .near, q .near, gap a b u v d, gap c e u v d)) in
+        let other : natAbs (c ⊖ e) % 2 ≡ 0 = q .even (omega (arith, p .near, q .near, gap a b u v d, gap c e u v d)) in
+        absurd (omega (arith, abs-⊖ a b, abs-⊖ c e, div-add-mod (natAbs (a ⊖ b)) 2, div-add-mod (natAbs (c ⊖ e)) 2))
+    go false f g m = g tt
+
+two-settled : (x r s : ℤ) (d : ℕ) → 0 < d → NearestEven x d r → NearestEven x d s → r ≡ s
+two-settled x r s d d0 p q = rep r ∙ ⊖-eq (pp r) (nn r) (pp s) (nn s) (omega (arith, not-above r s p q, not-above s r q p)) ∙ sym (rep s)
+  where
+    parts : (z : ℤ) → NearestEven x d z → NearestEven (pp x ⊖ nn x) d (pp z ⊖ nn z)
+    parts z h = subst (λ (y : ℤ). NearestEven y d (pp z ⊖ nn z)) (rep x) (subst (λ (y : ℤ). NearestEven x d y) (rep z) h)
+
+    not-above : (y z : ℤ) → NearestEven x d y → NearestEven x d z → pp y + nn z ≤ pp z + nn y
+    not-above y z h k = no-more (pp y) (nn y) (pp z) (nn z) (pp x) (nn x) d d0 (parts y h) (parts z k)
+
+pub toGrain-settled : ToGrainSettled
+toGrain-settled x d h = record { one = toGrain-one x d h; no-other = λ r p. two-settled x r (toGrain x d) d h p (toGrain-one x d h) }
 
 pub toGrain-near : (x : ℤ) (d : ℕ) → 0 < d → 2 * natAbs (pos d *ℤ toGrain x d -ℤ x) ≤ d
-unfolding toGrain
-toGrain-near = awayFromZero-near
+toGrain-near x d h = toGrain-one x d h .near
 
 -- ---- at most a whole number c, where the fraction is at most c
 near-size : (r x : ℤ) (d c : ℕ) → 0 < d → 2 * natAbs (pos d *ℤ r -ℤ x) ≤ d → natAbs x ≤ d * c → natAbs r ≤ c
@@ -55,7 +136,33 @@ awayFromZero-size x d c h k = by-abs (near-size (awayFromZero x d) x d c h (away
 pub toGrain-size : (x : ℤ) (d c : ℕ) → 0 < d → natAbs x ≤ d * c → toGrain x d within c
 toGrain-size x d c h k = by-abs (near-size (toGrain x d) x d c h (toGrain-near x d h) k)
 
--- ---- as the code works it, with the quotient that cuts toward zero
+-- ---- as the code works `to_grain`: the whole part below, and whether one more is nearer
+pub raised-is : (x : ℤ) (k : ℕ) → natAbs x ≤ k → x +ℤ pos k ≡ pos (natAbs (x +ℤ pos k))
+raised-is x k h = subst⁻¹ (λ (z : ℤ). natAbs z ≤ k → z +ℤ pos k ≡ pos (natAbs (z +ℤ pos k))) (rep x) (go (pp x) (nn x)) h
+  where
+    go : (a b : ℕ) → natAbs (a ⊖ b) ≤ k → a ⊖ b +ℤ pos k ≡ pos (natAbs (a ⊖ b +ℤ pos k))
+    go a b h = simp (ringℤ, abs-⊖) (omega (arith, h, abs-⊖ a b))
+
+pub whole-part : (x : ℤ) (k d n : ℕ) → 0 < d → x +ℤ pos (k * d) ≡ pos n → Below x d (pos (n / d) -ℤ pos k)
+whole-part x k d n h e = record { rest = n % d; less = mod-lt n {m = d} h; is = sym (+ℤ-negℤ-cancel x (pos (k * d))) ∙ ap (λ (z : ℤ). z -ℤ pos (k * d)) e ∙ split }
+  where
+    split : pos n -ℤ pos (k * d) ≡ pos d *ℤ (pos (n / d) -ℤ pos k) +ℤ pos (n % d)
+    split = simp ringℤ (omega (arith, div-add-mod n d))
+
+-- its multiple is the numerator less the rest
+pub multiple-is : {x b : ℤ} {d : ℕ} (h : Below x d b) → b *ℤ pos d ≡ x -ℤ pos (h .rest)
+multiple-is {x} {b} {d} h = subst⁻¹ (λ (z : ℤ). b *ℤ pos d ≡ z -ℤ pos (h .rest)) (h .is) (rw (rep b) (simp ringℤ (omega arith)))
+
+pub stays-is : {x b : ℤ} {d : ℕ} (h : Below x d b) → 2 * h .rest + natAbs b % 2 ≤ d → b ≡ toGrain x d
+stays-is {x} {b} {d} h k = toGrain-settled x d (omega (arith, h .less)) .no-other b
+    (subst (λ (z : ℤ). NearestEven z d b) (sym (h .is)) (stays b d (h .rest) (omega arith) (λ t. omega arith)))
+
+pub one-more-is : {x b : ℤ} {d : ℕ} (h : Below x d b) → d < 2 * h .rest + natAbs b % 2 → b +ℤ pos 1 ≡ toGrain x d
+one-more-is {x} {b} {d} h k = toGrain-settled x d (omega (arith, h .less)) .no-other (b +ℤ pos 1)
+    (subst (λ (z : ℤ). NearestEven z d (b +ℤ pos 1)) (sym (h .is))
+    (one-more b d (h .rest) (omega (arith, h .less)) (omega (arith, mod-lt (natAbs b) {m = 2} (omega arith))) (λ t. odd-next b (omega (arith, mod-lt (natAbs b) {m = 2} (omega arith))))))
+
+-- ---- as the code works `away_from_zero`, with the quotient that cuts toward zero
 no-less : (n : ℕ) → n < 0 → ⊥
 no-less n h = omega arith
 

@@ -6,9 +6,9 @@ use native.Mathlib.Nat.{lt-of-le-of-lt, le-trans, div-le-self}
 use native.Mathlib.Omega.{arith}
 use lib.Dec.{T, ltb, ltb→lt}
 use lib.IntN.{ℤ, pos, negsuc, natAbs, _+ℤ_, _-ℤ_, _*ℤ_}
-use lib.Signed.{quotZ, mag, _<ℤ_}
+use lib.Signed.{quotZ, mag, nonNeg, _<ℤ_}
 use mir.Syntax.{w32, w64}
-use mir.Val.{SFits, toZ, ofZ}
+use mir.Val.{Fits, SFits, toZ, ofZ}
 use mir.Facts.{toZ-ofZ}
 use Rattle.integers.specs.Sizes.{_within_}
 use Rattle.integers.specs.Contracts.{largestNumerator, largestDivisor, Rounds}
@@ -69,6 +69,10 @@ pub pos-abs : (d : ℤ) → pos 0 <ℤ d → 0 < natAbs d
 pos-abs (pos n) h = ltb→lt 0 n (h .lt)
 pos-abs (negsuc n) h = omega arith
 
+pub pos-is : (d : ℤ) → pos 0 <ℤ d → d ≡ pos (natAbs d)
+pos-is (pos n) h = refl
+pos-is (negsuc n) h = absurd (h .lt)
+
 -- a value that is known to be within a bound that fits, as an element of a slice
 pub i-in : {x : ℤ} {B : ℕ} → x within B → Room B → Reads (toZ w64 (ofZ w64 x)) x B
 i-in {B = B} h k = i-arg (sfits64 h (ltb→lt B (2 ^ 63) k)) h
@@ -94,6 +98,13 @@ i-call f e h = record { eq = toZ-ofZ (record { sfits = f }) ∙ e; bound = h }
 
 pub i-cast : {n B : ℕ} → n ≤ B → Room B → Reads (toZ w64 n) (pos n) B
 i-cast h k = i-in (record { abs = h }) k
+
+-- a tighter bound; a number that is not negative, cast to an unsigned one
+pub i-bound : {t z : ℤ} {A B : ℕ} → Reads t z A → z within B → Reads t z B
+i-bound h k = record { eq = h .eq; bound = k }
+
+pub i-unsigned : {t : ℤ} {n B : ℕ} → Reads t (pos n) B → Room B → T (nonNeg t) × Fits w64 (natAbs t)
+i-unsigned {n = n} {B = B} h k = rw (h .eq) (tt, record { fits = omega (arith, h .bound .abs, ltb→lt B (2 ^ 63) k) })
 
 -- what a call returned and a local keeps, read again
 pub kept : {z v : ℤ} → mag z < 2 ^ 63 → z ≡ v → toZ w64 (ofZ w64 z) ≡ v

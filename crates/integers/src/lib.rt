@@ -1,10 +1,15 @@
 // Whole-number functions that the other crates call: rounding, size, root.
 ghost use mathlib.Core.Path.{_≡_};
-ghost use Prim.Native.Nat.{_*_, _≤_, _<_};
-ghost use lib.IntN.{natAbs};
+ghost use Prim.Native.Nat.{_+_, _*_, _%_, _≤_, _<_};
+ghost use lib.IntN.{pos, natAbs};
+ghost use lib.Signed.{_<ℤ_};
+ghost use Rattle.integers.specs.Sizes.{_within_};
 ghost use Rattle.integers.specs.Rounding.{halfUp, awayFromZero, toGrain};
 ghost use Rattle.integers.specs.Root.{root};
-ghost use Rattle.integers.specs.Contracts.{largestNumerator, largestDivisor, largestCandidate, Rounds, farther};
+ghost use Rattle.integers.specs.Contracts.{largestNumerator, largestDivisor, largestCandidate, Rounds, Raises, Below, farther};
+
+// The largest numerator that the roundings take.
+const LARGEST_NUMERATOR: i64 = 4_000_000_000_000_000_000;
 
 // Twice x and d more, away from zero.
 fn farther(x: i64, d: i64) -> i64
@@ -30,12 +35,45 @@ pub fn away_from_zero(x: i64, d: i64) -> i64
     farther(x, d) / (2 * d)
 }
 
-// x / d to the nearest grain (METHOD 1.3).
+// An even number: times d it is at least every numerator. (Even, since the compiler then reads off the quotient in `whole_below` whether the
+// whole part is odd.)
+fn raise(d: i64) -> i64
+    requires { ⌜ (d within largestDivisor) × (pos 0 <ℤ d) ⌝ }
+    ensures { λ r. ⌜ Raises (natAbs d) r ⌝ }
+{
+    2 * (LARGEST_NUMERATOR / (2 * d) + 1)
+}
+
+// The whole part below x / d: x is raised by a multiple of d to zero or above, where division cuts downward.
+fn whole_below(x: i64, d: i64) -> i64
+    requires { ⌜ Rounds x d ⌝ }
+    ensures { λ r. ⌜ Below x (natAbs d) r ⌝ }
+{
+    let by = raise(d);
+    ((x + by * d) as u64 / d as u64) as i64 - by
+}
+
+// 1 for an odd number, 0 for an even one.
+fn odd(z: i64) -> u64
+    requires { ⌜ z within (largestNumerator + largestDivisor) ⌝ }
+    ensures { λ r. ⌜ r ≡ natAbs z % 2 ⌝ }
+{
+    (z % 2 != 0) as u64
+}
+
+// x / d to the nearest grain, a half to the even one (METHOD 1.3): one more than the whole part below where the double of the rest is greater
+// than d, or the same and the whole part odd.
 pub fn to_grain(x: i64, d: i64) -> i64
     requires { ⌜ Rounds x d ⌝ }
     ensures { λ r. ⌜ r ≡ toGrain x (natAbs d) ⌝ }
 {
-    away_from_zero(x, d)
+    let below = whole_below(x, d);
+    let rest = (x - below * d) as u64;
+    if (d as u64) < 2 * rest + odd(below) {
+        below + 1
+    } else {
+        below
+    }
 }
 
 // The size of a number.

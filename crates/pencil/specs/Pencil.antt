@@ -63,13 +63,14 @@ pencil =
     ∷ (at (filter table3x3 (one 71 27_000)) (47 ∷ 59 ∷ 71 ∷ []) gives whole (3000 ∷ 7000 ∷ 11_000 ∷ []))
     -- 3×5, the last value of a run 60,000: the last four results
     ∷ (at (filter table3x5 (one 71 60_000)) (35 ∷ 47 ∷ 59 ∷ 71 ∷ []) gives whole (4000 ∷ 9000 ∷ 15_000 ∷ 17_000 ∷ []))
-    -- rounding to a grain: 1/2 to 1, -1/2 to -1
-    ∷ (toGrain (pos 1) 2 ∷ toGrain (negsuc 0) 2 ∷ [] gives (pos 1 ∷ negsuc 0 ∷ []))
+    -- rounding to a grain: 1/2 and -1/2 to 0, 3/2 to 2, -3/2 to -2
+    ∷ (toGrain (pos 1) 2 ∷ toGrain (negsuc 0) 2 ∷ [] gives whole (0 ∷ 0 ∷ []))
+    ∷ (toGrain (pos 3) 2 ∷ toGrain (negsuc 2) 2 ∷ [] gives (pos 2 ∷ negsuc 1 ∷ []))
     -- the weights by σ 100 of a 149, 150, 200, 250, 251
     ∷ (whole (map (weight 100) (149 ∷ 150 ∷ 200 ∷ 250 ∷ 251 ∷ [])) gives whole (1000 ∷ 1000 ∷ 500 ∷ 0 ∷ 0 ∷ []))
     -- the weight by σ 3 of a 5
     ∷ (whole (weight 3 5 ∷ []) gives whole (833 ∷ []))
-    -- the correction of an irregular of 500 grains, its weight 833
+    -- the correction of an irregular of 500 grains, its weight 833: 83.5
     ∷ (correctionOf (pos 500) 833 ∷ [] gives whole (84 ∷ []))
     -- the group of sizes 0, 0, 0, 1: both spreads, and the weights of its months
     ∷ (whole (spread exampleGroup ∷ secondSpread exampleGroup ∷ []) gives whole (0 ∷ 0 ∷ []))

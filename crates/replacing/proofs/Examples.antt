@@ -1,13 +1,13 @@
 -- The definitions give the neighbours and the means of METHOD 3.9, by computation.
 use mathlib.Core.Path.{refl}
 use Rattle.integers.specs.Lists.{tabFrom, tab}
-use Rattle.integers.specs.Rounding.{halfUp, awayFromZero, toGrain}
+use Rattle.integers.specs.Rounding.{halfToEven, toGrain}
 use Rattle.replacing.specs.Neighbours.{ofFullWeight, nearest, runBefore, runAfter, fullBefore, fullAfter, neighbours}
 use Rattle.replacing.specs.Replaced.{sumAt, isReplaced, countedSum, counted, replacedAt, replacedBy}
 use Rattle.replacing.specs.Examples.{januaries, neighboursIn, thirdReplaced, WorkedExamples}
 
 pub worked-examples : WorkedExamples
-unfolding tabFrom tab halfUp awayFromZero toGrain ofFullWeight nearest runBefore runAfter fullBefore fullAfter neighbours sumAt isReplaced countedSum counted replacedAt replacedBy januaries neighboursIn thirdReplaced
+unfolding tabFrom tab halfToEven toGrain ofFullWeight nearest runBefore runAfter fullBefore fullAfter neighbours sumAt isReplaced countedSum counted replacedAt replacedBy januaries neighboursIn thirdReplaced
 worked-examples = record {
   two-on-each-side = refl;
   three-nearest = refl;

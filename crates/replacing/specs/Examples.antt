@@ -37,6 +37,6 @@ pub record WorkedExamples : Type 0 where
   -- METHOD 3.9: a value of weight 0, one of weight 500, one whose mean lies on a half, and two without neighbours
   pub weight-0 : thirdReplaced (1000 ∷ 1000 ∷ 0 ∷ 1000 ∷ 1000 ∷ []) ≡ pos 250
   pub weight-500 : thirdReplaced (1000 ∷ 1000 ∷ 500 ∷ 1000 ∷ 1000 ∷ []) ≡ negℤ (pos 5333)
-  pub on-a-half : thirdReplaced (1000 ∷ 999 ∷ 0 ∷ 999 ∷ 1000 ∷ []) ≡ pos 251
+  pub on-a-half : thirdReplaced (1000 ∷ 999 ∷ 0 ∷ 999 ∷ 1000 ∷ []) ≡ pos 250
   pub no-neighbours : thirdReplaced (999 ∷ 999 ∷ 0 ∷ 999 ∷ 999 ∷ []) ≡ negℤ (pos 50_000)
   pub none-at-500 : thirdReplaced (999 ∷ 999 ∷ 500 ∷ 999 ∷ 999 ∷ []) ≡ negℤ (pos 50_000)

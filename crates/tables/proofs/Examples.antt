@@ -2,7 +2,7 @@
 use mathlib.Core.Path.{refl}
 use Rattle.integers.specs.Lists.{tabFrom, tab}
 use Rattle.integers.specs.Root.{oneMore, rootIn, root}
-use Rattle.integers.specs.Rounding.{halfUp, awayFromZero, toGrain}
+use Rattle.integers.specs.Rounding.{halfUp, awayFromZero, halfToEven, toGrain}
 use Rattle.integers.specs.Sums.{sumZ}
 use Rattle.series.specs.Operations.{minus, times, pick}
 use Rattle.rows.specs.Table.{rowWeight, denominator}
@@ -20,7 +20,7 @@ use Rattle.tables.specs.Tables.{B1, B10}
 use Rattle.tables.specs.Examples.{flooded, FloodedJanuary}
 
 pub flooded-january : FloodedJanuary
-unfolding tabFrom tab oneMore rootIn root halfUp awayFromZero toGrain sumZ minus times pick rowWeight denominator table2x12 table3x3 table3x5 tableHenderson
+unfolding tabFrom tab oneMore rootIn root halfUp awayFromZero halfToEven toGrain sumZ minus times pick rowWeight denominator table2x12 table3x3 table3x5 tableHenderson
     filters.earlier filters.later filters.rowAt filters.dot filters.weightedSum filters.valueAt filters.filter filters.reach filters.inside
     neighbours.ofFullWeight neighbours.nearest neighbours.runBefore neighbours.runAfter neighbours.fullBefore neighbours.fullAfter neighbours.neighbours
     sumAt isReplaced countedSum counted replacedAt replacedBy inner nearestLevel copied widened level T1 SI1 R1 M1 innerS1 S1 A1 T2 SI2 R2 M2 S2
