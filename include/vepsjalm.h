@@ -3,8 +3,8 @@
    C library is needed. examples/decompose.c is a whole caller of reading and decomposing, examples/final-weights.c of writing too.
 
    The filters are fixed: 2x12, 3x3, 3x5 and 13-term Henderson with Musgrave's ends. Extreme months are found by the library itself; in its
-   first pass their values are replaced by means of their neighbours (docs/METHOD.md, 3.8). No multiplicative working, calendar effects,
-   forecasts or choice of filter length.
+   first pass their values are replaced by means of their neighbours (docs/METHOD.md, 3.8). What is filtered or corrected is rounded to the
+   nearest thousandth, a half to the even one (1.3). No multiplicative working, calendar effects, forecasts or choice of filter length.
 
    For all three functions:
 
@@ -27,9 +27,9 @@
 /* The version of this header and of the library that goes with it (the library does not tell its own), major.minor.patch. The minor number
    goes up with every landing that changes what callers see, the patch number with every other; the major number is 0 while functions and
    constants may still change. */
-#define VEPSJALM_VERSION "0.11.0"
+#define VEPSJALM_VERSION "0.12.0"
 #define VEPSJALM_VERSION_MAJOR 0
-#define VEPSJALM_VERSION_MINOR 11
+#define VEPSJALM_VERSION_MINOR 12
 #define VEPSJALM_VERSION_PATCH 0
 
 /* The limits. */

@@ -1,4 +1,5 @@
--- What the rounding functions and the root ask of their arguments. Nothing here is promised to a caller of the desk.
+-- What the rounding functions and the root ask of their arguments, and what the functions below them answer. Nothing here is promised to a
+-- caller of the desk.
 use mathlib.Core.Path.{_≡_}
 use mathlib.Core.Bool.{cond}
 use Prim.Native.Nat.{ℕ, _+_, _*_, _<_, _≤_}
@@ -22,7 +23,7 @@ pub record Rounds (x d : ℤ) : Type 0 where
   pub divisor : d within largestDivisor
   pub positive : pos 0 <ℤ d
 
--- d times r is at least every numerator, and not much more
+-- rounding to a grain: so often d is at least every numerator, and not much more
 pub record Raises (d : ℕ) (r : ℤ) : Type 0 where
   pub count : ℕ
   pub is : r ≡ pos count
@@ -35,6 +36,6 @@ pub record Below (x : ℤ) (d : ℕ) (r : ℤ) : Type 0 where
   pub less : rest < d
   pub is : x ≡ pos d *ℤ r +ℤ pos rest
 
--- what is put over twice the divisor: twice x and d more, away from zero
+-- rounding away from zero: what is put over twice the divisor, twice x and d more, away from zero
 unfoldable pub farther : ℤ → ℤ → ℤ
 farther x d = cond (ltZ x (pos 0)) (pos 2 *ℤ x -ℤ d) (pos 2 *ℤ x +ℤ d)

@@ -1,6 +1,6 @@
--- METHOD 1.3 and 1.4: fractions are rounded one single time, to the nearest whole number. `toGrain` rounds every filter, correction and mean;
--- `awayFromZero` the millionths of Henderson's ends (2.6) and an irregular to whole units (5.3); `halfUp` the quotient of a weight (5.6). They
--- differ exactly between two whole numbers.
+-- METHOD 1.3 and 1.4: fractions are rounded one single time, to the nearest whole number. `toGrain` rounds every filter (2.1), every correction
+-- (5.7) and every value that is replaced (3.9); `awayFromZero` the millionths of Henderson's ends (2.6) and an irregular to whole units (5.3);
+-- `halfUp` the quotient of a weight (5.6). Only where a fraction lies halfway between two whole numbers can they differ.
 use mathlib.Core.Path.{_≡_}
 use mathlib.Core.Bool.{cond}
 use Prim.Native.Nat.{ℕ, suc, _+_, _*_, _/_, _%_, _<_, _≤_}
@@ -16,8 +16,8 @@ unfoldable pub awayFromZero : ℤ → ℕ → ℤ
 awayFromZero (pos n) d = pos (halfUp n d)
 awayFromZero (negsuc n) d = negℤ (pos (halfUp (suc n) d))
 
--- METHOD 1.3, a size: the whole part n / d where the remainder's double is less than d, and one more where it is greater; where the two are
--- equal, the even one of these two: one more for an odd whole part
+-- METHOD 1.3, the size of a fraction, n over d: its whole part stays where the double of the remainder is less than d, and gets one more where
+-- it is greater; where that double is d itself, the whole part gets one more if it is odd
 unfoldable pub halfToEven : ℕ → ℕ → ℕ
 halfToEven n d =
     cond (ltb (2 * (n % d)) d) (n / d)
@@ -29,7 +29,8 @@ unfoldable pub toGrain : ℤ → ℕ → ℤ
 toGrain (pos n) d = pos (halfToEven n d)
 toGrain (negsuc n) d = negℤ (pos (halfToEven (suc n) d))
 
--- METHOD 1.3, the same without any working: r is at most half a grain from x / d, and where it is just half a grain away it is even
+-- METHOD 1.3, what holds of the number, however it is found: r is at most half a grain from x / d, and where it is just half a grain away it
+-- is even
 pub record NearestEven (x : ℤ) (d : ℕ) (r : ℤ) : Type 0 where
   pub near : 2 * natAbs (pos d *ℤ r -ℤ x) ≤ d
   pub even : 2 * natAbs (pos d *ℤ r -ℤ x) ≡ d → natAbs r % 2 ≡ 0

@@ -46,6 +46,10 @@ hendersonAround c = at (filter tableHenderson (one c 16_796)) (c ∷ (c - 1) ∷
 abbrev hendersonWeights : List ℤ
 hendersonWeights = pos 4032 ∷ pos 3600 ∷ pos 3600 ∷ negsuc 324 ∷ negsuc 324 ∷ []
 
+-- Henderson of 8,398 at place c: there, two places away and six, where half of 2,475 and half of -325 lie on halves
+abbrev hendersonHalves : ℕ → List ℤ
+hendersonHalves c = at (filter tableHenderson (one c 8_398)) (c ∷ (c - 2) ∷ (c + 2) ∷ (c - 6) ∷ (c + 6) ∷ [])
+
 -- the sizes of the group of the last case
 abbrev exampleGroup : List ℕ
 exampleGroup = 0 ∷ 0 ∷ 0 ∷ 1 ∷ []
@@ -66,12 +70,17 @@ pencil =
     -- rounding to a grain: 1/2 and -1/2 to 0, 3/2 to 2, -3/2 to -2
     ∷ (toGrain (pos 1) 2 ∷ toGrain (negsuc 0) 2 ∷ [] gives whole (0 ∷ 0 ∷ []))
     ∷ (toGrain (pos 3) 2 ∷ toGrain (negsuc 2) 2 ∷ [] gives (pos 2 ∷ negsuc 1 ∷ []))
+    -- filters that come to halves: 2×12 of 12, 1 and twice 1/2; 3×5 of a last value of 30, 2, 9/2, 15/2 and 17/2; Henderson of 8,398
+    ∷ (at2x12 (one 30 12) (30 ∷ 24 ∷ 36 ∷ []) gives whole (1 ∷ 0 ∷ 0 ∷ []))
+    ∷ (at (filter table3x5 (one 71 30)) (35 ∷ 47 ∷ 59 ∷ 71 ∷ []) gives whole (2 ∷ 4 ∷ 8 ∷ 8 ∷ []))
+    ∷ (hendersonHalves 30 gives (pos 2016 ∷ pos 1238 ∷ pos 1238 ∷ negsuc 161 ∷ negsuc 161 ∷ []))
     -- the weights by σ 100 of a 149, 150, 200, 250, 251
     ∷ (whole (map (weight 100) (149 ∷ 150 ∷ 200 ∷ 250 ∷ 251 ∷ [])) gives whole (1000 ∷ 1000 ∷ 500 ∷ 0 ∷ 0 ∷ []))
     -- the weight by σ 3 of a 5
     ∷ (whole (weight 3 5 ∷ []) gives whole (833 ∷ []))
-    -- the correction of an irregular of 500 grains, its weight 833: 83.5
+    -- the correction of an irregular of 500 grains, its weight 833: 83.5; and its weight 835: 82.5
     ∷ (correctionOf (pos 500) 833 ∷ [] gives whole (84 ∷ []))
+    ∷ (correctionOf (pos 500) 835 ∷ [] gives whole (82 ∷ []))
     -- the group of sizes 0, 0, 0, 1: both spreads, and the weights of its months
     ∷ (whole (spread exampleGroup ∷ secondSpread exampleGroup ∷ []) gives whole (0 ∷ 0 ∷ []))
     ∷ (whole (map (weight (secondSpread exampleGroup)) exampleGroup) gives whole (1000 ∷ 1000 ∷ 1000 ∷ 0 ∷ []))

@@ -34,7 +34,7 @@ pub record WorkedExamples : Type 0 where
   pub three-nearest : neighboursIn 0 (0 ∷ 1000 ∷ 500 ∷ 1000 ∷ 1000 ∷ 1000 ∷ []) ≡ january 1 ∷ january 3 ∷ january 4 ∷ []
   pub equally-near : neighboursIn 3 (1000 ∷ 0 ∷ 0 ∷ 0 ∷ 1000 ∷ 1000 ∷ 1000 ∷ []) ≡ january 4 ∷ january 5 ∷ january 0 ∷ []
   pub all-there-are : neighboursIn 5 (0 ∷ 0 ∷ 0 ∷ 0 ∷ 1000 ∷ 0 ∷ []) ≡ january 4 ∷ []
-  -- METHOD 3.9: a value of weight 0, one of weight 500, one whose mean lies on a half, and two without neighbours
+  -- METHOD 3.9: a value of weight 0, one of weight 500, one whose mean, 250.5, lies on a half, and two without neighbours
   pub weight-0 : thirdReplaced (1000 ∷ 1000 ∷ 0 ∷ 1000 ∷ 1000 ∷ []) ≡ pos 250
   pub weight-500 : thirdReplaced (1000 ∷ 1000 ∷ 500 ∷ 1000 ∷ 1000 ∷ []) ≡ negℤ (pos 5333)
   pub on-a-half : thirdReplaced (1000 ∷ 999 ∷ 0 ∷ 999 ∷ 1000 ∷ []) ≡ pos 250
