@@ -35,7 +35,7 @@ pub record NearestEven (x : ℤ) (d : ℕ) (r : ℤ) : Type 0 where
   pub near : 2 * natAbs (pos d *ℤ r -ℤ x) ≤ d
   pub even : 2 * natAbs (pos d *ℤ r -ℤ x) ≡ d → natAbs r % 2 ≡ 0
 
--- the two settle the rounding: `toGrain` gives such a number, and there is no other (shown in proofs/RoundingLaws.antt, toGrain-settled)
+-- being near, and even on a half, settles the rounding: `toGrain` gives such a number, and there is no other (shown in proofs/RoundingLaws.antt, toGrain-settled)
 pub record Settled (x : ℤ) (d : ℕ) : Type 0 where
   pub one : NearestEven x d (toGrain x d)
   pub no-other : (r : ℤ) → NearestEven x d r → r ≡ toGrain x d

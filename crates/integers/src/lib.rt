@@ -1,4 +1,4 @@
-// Whole-number functions that the other crates call: rounding, size, root.
+// Functions of whole numbers: roundings, size, root.
 ghost use mathlib.Core.Path.{_≡_};
 ghost use Prim.Native.Nat.{_+_, _*_, _%_, _≤_, _<_};
 ghost use lib.IntN.{pos, natAbs};
@@ -19,7 +19,7 @@ fn farther(x: i64, d: i64) -> i64
     if x < 0 { 2 * x - d } else { 2 * x + d }
 }
 
-// n / d to the nearest whole number, a half up: for the quotient of a weight (METHOD 1.4).
+// n / d to the nearest whole number, a half up: for the quotient of a weight, and for whole units, whose sizes are rounded (METHOD 1.4).
 pub fn half_up(n: u64, d: u64) -> u64
     requires { ⌜ (0 < d) × (n ≤ largestNumerator) × (d ≤ largestDivisor) ⌝ }
     ensures { λ r. ⌜ r ≡ halfUp n d ⌝ }
@@ -27,7 +27,8 @@ pub fn half_up(n: u64, d: u64) -> u64
     (2 * n + d) / (2 * d)
 }
 
-// x / d to the nearest whole number, a half away from zero: for millionths and whole units (METHOD 1.4).
+// x / d to the nearest whole number, a half away from zero (METHOD 1.4). Nothing calls it now: of whole units the sizes are rounded, by
+// `half_up`, and the millionths are stored.
 pub fn away_from_zero(x: i64, d: i64) -> i64
     requires { ⌜ Rounds x d ⌝ }
     ensures { λ r. ⌜ r ≡ awayFromZero x (natAbs d) ⌝ }
@@ -35,8 +36,8 @@ pub fn away_from_zero(x: i64, d: i64) -> i64
     farther(x, d) / (2 * d)
 }
 
-// An even number: times d it is at least every numerator. (Even, since the compiler then reads off the quotient in `whole_below` whether the
-// whole part is odd.)
+// A number of times that d is at least every numerator. It is even, which nothing asks: the compiler then reads off the quotient in
+// `whole_below` whether the whole part is odd.
 fn raise(d: i64) -> i64
     requires { ⌜ (d within largestDivisor) × (pos 0 <ℤ d) ⌝ }
     ensures { λ r. ⌜ Raises (natAbs d) r ⌝ }
@@ -53,7 +54,7 @@ fn whole_below(x: i64, d: i64) -> i64
     ((x + by * d) as u64 / d as u64) as i64 - by
 }
 
-// 1 for an odd number, 0 for an even one.
+// 1 for an odd number, 0 for an even one. (The bound, which every whole part keeps, makes the proof short.)
 fn odd(z: i64) -> u64
     requires { ⌜ z within (largestNumerator + largestDivisor) ⌝ }
     ensures { λ r. ⌜ r ≡ natAbs z % 2 ⌝ }

@@ -2,16 +2,16 @@
 use mathlib.Core.Path.{refl}
 use Rattle.integers.specs.Lists.{tabFrom, tab}
 use Rattle.integers.specs.Root.{oneMore, rootIn, root}
-use Rattle.integers.specs.Rounding.{halfUp, halfToEven, toGrain}
+use Rattle.integers.specs.Rounding.{halfUp, awayFromZero, halfToEven, toGrain}
 use Rattle.integers.specs.Sums.{sumZ}
 use Rattle.rows.specs.Table.{rowWeight, denominator}
 use Rattle.filters.specs.Filter.{earlier, later, rowAt, dot, weightedSum, valueAt, filter, reach, inside}
 use Rattle.rows.specs.FilterTables.{table2x12, table3x3, table3x5, tableHenderson}
-use Rattle.extremes.specs.Spreads.{squares, spread, keep, remaining, secondSpread}
+use Rattle.extremes.specs.Spreads.{sizeOf, squares, spread, keep, remaining, secondSpread}
 use Rattle.extremes.specs.Weighing.{weight, correctionOf}
 use Rattle.pencil.specs.Pencil.{pencil, PencilHolds}
 
 pub pencil-holds : PencilHolds
-unfolding pencil tabFrom tab oneMore rootIn root halfUp halfToEven toGrain sumZ rowWeight denominator earlier later rowAt dot weightedSum valueAt filter
-    reach inside table2x12 table3x3 table3x5 tableHenderson squares spread keep remaining secondSpread weight correctionOf
+unfolding pencil tabFrom tab oneMore rootIn root halfUp awayFromZero halfToEven toGrain sumZ rowWeight denominator earlier later rowAt dot weightedSum valueAt filter
+    reach inside table2x12 table3x3 table3x5 tableHenderson sizeOf squares spread keep remaining secondSpread weight correctionOf
 pencil-holds = refl

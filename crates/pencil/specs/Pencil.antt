@@ -9,7 +9,7 @@ use Rattle.integers.specs.Lists.{_‼_, tab}
 use Rattle.integers.specs.Rounding.{toGrain}
 use Rattle.filters.specs.Filter.{filter, inside}
 use Rattle.rows.specs.FilterTables.{table2x12, table3x3, table3x5, tableHenderson}
-use Rattle.extremes.specs.Spreads.{spread, secondSpread}
+use Rattle.extremes.specs.Spreads.{sizeOf, spread, secondSpread}
 use Rattle.extremes.specs.Weighing.{weight, correctionOf}
 
 -- a case: what the rules find, and what is wanted
@@ -78,6 +78,10 @@ pencil =
     ∷ (whole (map (weight 100) (149 ∷ 150 ∷ 200 ∷ 250 ∷ 251 ∷ [])) gives whole (1000 ∷ 1000 ∷ 500 ∷ 0 ∷ 0 ∷ []))
     -- the weight by σ 3 of a 5
     ∷ (whole (weight 3 5 ∷ []) gives whole (833 ∷ []))
+    -- the weight by σ 16 of a 25: the quotient is 1,562.5
+    ∷ (whole (weight 16 25 ∷ []) gives whole (937 ∷ []))
+    -- the sizes in whole units of irregulars of 500, -500, 2,500 and -2,500 grains
+    ∷ (whole (map sizeOf (pos 500 ∷ negsuc 499 ∷ pos 2500 ∷ negsuc 2499 ∷ [])) gives whole (1 ∷ 1 ∷ 3 ∷ 3 ∷ []))
     -- the correction of an irregular of 500 grains, its weight 833: 83.5; and its weight 835: 82.5
     ∷ (correctionOf (pos 500) 833 ∷ [] gives whole (84 ∷ []))
     ∷ (correctionOf (pos 500) 835 ∷ [] gives whole (82 ∷ []))
