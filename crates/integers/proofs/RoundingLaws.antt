@@ -58,8 +58,10 @@ odd-next b h = subst⁻¹ (λ (z : ℤ). natAbs z % 2 ≡ 1 → natAbs (z +ℤ p
 -- ---- toGrain gives such a number
 size-settled : (n d : ℕ) → 0 < d → NearestEven (pos n) d (pos (halfToEven n d))
 unfolding halfToEven
-size-settled n d h = subst (λ (k : ℕ). NearestEven (pos k) d (pos (halfToEven n d))) (div-add-mod n d)
-    (go (ltb (2 * (n % d)) d) (ltb d (2 * (n % d))) (λ t. ltb→lt (2 * (n % d)) d t) (λ t. nltb→le (2 * (n % d)) d t) (λ t. ltb→lt d (2 * (n % d)) t) (λ t. nltb→le d (2 * (n % d)) t))
+size-settled n d h =
+    let twice = 2 * (n % d) in
+    subst (λ (k : ℕ). NearestEven (pos k) d (pos (halfToEven n d))) (div-add-mod n d)
+    (go (ltb twice d) (ltb d twice) (λ t. ltb→lt twice d t) (λ t. nltb→le twice d t) (λ t. ltb→lt d twice t) (λ t. nltb→le d twice t))
   where
     less : n % d < d
     less = mod-lt n {m = d} h

@@ -1,6 +1,6 @@
 -- `filters::by_row` meets its contract: the row and the window lie within the slices, and the sum is that of the rules.
 -- Assumes nothing.
-use Prim.Native.Nat.{_+_, _*_, _-_, _≤_}
+use Prim.Native.Nat.{ℕ, _+_, _*_, _-_, _≤_}
 use mathlib.Core.Path.{_≡_, _∙_}
 use native.Mathlib.Omega.{arith}
 use borrow.Author.Needs.{needs}
@@ -14,7 +14,11 @@ use Rattle.filters.proofs.by_row.Tie as tie
 abbrev F : tie.Start → Table
 F s = tableOf (s .args .f) (s .args .rows .now)
 
-the-dots : (s : tie.Start) → Dots (s .args .rows .now) ((s .args .earlier + (s .args .f .side - s .args .later)) * s .args .f .width) (s .args .earlier + 1 + s .args .later)
+-- the row that serves place t
+abbrev row : tie.Start → ℕ
+row s = s .args .earlier + (s .args .f .side - s .args .later)
+
+the-dots : (s : tie.Start) → Dots (s .args .rows .now) (row s * s .args .f .width) (s .args .earlier + 1 + s .args .later)
     (s .args .x .now) (s .args .t - s .args .earlier * s .args .f .step) (s .args .f .step)
 the-dots s = window.dots (F s) (s .args .x .now) (s .args .t) (s .args .earlier) (s .args .later) (s .pre .0) (s .pre .1)
 
@@ -53,15 +57,15 @@ dot-requires : tie.Need-dot-requires
 dot-requires c κs = the-dots (start3 c)
 
 -- the row's denominator
-over : (c : tie.After-denominator) → c .denominator .result ≡ denominator (F (start3 (c .before .before))) (start3 (c .before .before) .args .earlier + (start3 (c .before .before) .args .f .side - start3 (c .before .before) .args .later))
-over c = c .denominator .ensures ∙ window.any-weights (start3 (c .before .before) .args .f) _ (start3 (c .before .before) .args .rows .now)
+over : (c : tie.After-denominator) → let s = start3 (c .before .before) in c .denominator .result ≡ denominator (F s) (row s)
+over c = let s = start3 (c .before .before) in c .denominator .ensures ∙ window.any-weights (s .args .f) (row s) (s .args .rows .now)
 
 denominator-requires : tie.Need-denominator-requires
 denominator-requires c κs = search needs
 
 rounded-requires : tie.Need-rounded-requires
 rounded-requires c κs = let p = c .before in let s = start3 (p .before) in
-    let l = window.denominator-limits (F s) (s .pre .0 .readable) (s .args .earlier + (s .args .f .side - s .args .later)) in
+    let l = window.denominator-limits (F s) (s .pre .0 .readable) (row s) in
     (i-within (i-call (p .dot .ok) (p .dot .ensures) (window.dot-within (the-dots s))), omega (arith, l, over c), omega (arith, l, over c))
 
 returns : tie.Need-returns

@@ -35,32 +35,46 @@ raise-requires : tie.Need-raise-requires
 raise-requires c κs = search needs
 
 module _ (c : tie.After-raise) where
-  raises : Raises (natAbs (c .before .args .d)) (c .raise .result)
+  abbrev x : ℤ
+  x = c .before .args .x
+
+  abbrev d : ℕ
+  d = natAbs (c .before .args .d)
+
+  raises : Raises d (c .raise .result)
   raises = subst (λ (z : ℤ). Raises (natAbs z) (c .raise .result)) (i-arg (c .before .fits .d) (c .before .pre .divisor) .eq) (c .raise .ensures)
 
+  most : raises .count * d ≤ largestMultiple
+  most = omega (arith, raises .most, c .before .pre .divisor)
+
   by-is : Reads (toZ w64 (ofZ w64 (c .raise .result))) (pos (raises .count)) largestMultiple
-  by-is = i-call (c .raise .ok) (raises .is) (by-abs (le-trans (le-mul-of-pos-right (raises .count) (positive (c .before))) (omega (arith, raises .most, c .before .pre .divisor))))
+  by-is = i-call (c .raise .ok) (raises .is) (by-abs (le-trans (le-mul-of-pos-right (raises .count) (positive (c .before))) most))
 
-  product : Reads (toZ w64 (ofZ w64 (c .raise .result)) *ℤ toZ w64 (ofZ w64 (c .before .args .d))) (pos (raises .count * natAbs (c .before .args .d))) largestMultiple
-  product = i-bound (i* by-is (d-is (c .before))) (by-abs (omega (arith, raises .most, c .before .pre .divisor)))
+  product : Reads (toZ w64 (ofZ w64 (c .raise .result)) *ℤ toZ w64 (ofZ w64 (c .before .args .d))) (pos (raises .count * d)) largestMultiple
+  product = i-bound (i* by-is (d-is (c .before))) (by-abs most)
 
+  -- the raised numerator
   abbrev raised : ℕ
-  raised = natAbs (c .before .args .x +ℤ pos (raises .count * natAbs (c .before .args .d)))
+  raised = natAbs (x +ℤ pos (raises .count * d))
 
-  sum : Reads (toZ w64 (ofZ w64 (c .before .args .x)) +ℤ toZ w64 (ofZ w64 (toZ w64 (ofZ w64 (c .raise .result)) *ℤ toZ w64 (ofZ w64 (c .before .args .d))))) (pos raised) (largestNumerator + largestMultiple)
-  sum = i≡ (i+ (i-arg (c .before .fits .x) (c .before .pre .numerator)) (i-kept product tt)) (raised-is (c .before .args .x) (raises .count * natAbs (c .before .args .d)) (le-trans (c .before .pre .numerator .abs) (raises .least)))
+  not-negative : x +ℤ pos (raises .count * d) ≡ pos raised
+  not-negative = raised-is x (raises .count * d) (le-trans (c .before .pre .numerator .abs) (raises .least))
 
-  quotient : natAbs (toZ w64 (ofZ w64 (toZ w64 (ofZ w64 (c .before .args .x)) +ℤ toZ w64 (ofZ w64 (toZ w64 (ofZ w64 (c .raise .result)) *ℤ toZ w64 (ofZ w64 (c .before .args .d)))))))
+  sum : Reads (toZ w64 (ofZ w64 x) +ℤ toZ w64 (ofZ w64 (toZ w64 (ofZ w64 (c .raise .result)) *ℤ toZ w64 (ofZ w64 (c .before .args .d))))) (pos raised)
+      (largestNumerator + largestMultiple)
+  sum = i≡ (i+ (i-arg (c .before .fits .x) (c .before .pre .numerator)) (i-kept product tt)) not-negative
+
+  quotient : natAbs (toZ w64 (ofZ w64 (toZ w64 (ofZ w64 x) +ℤ toZ w64 (ofZ w64 (toZ w64 (ofZ w64 (c .raise .result)) *ℤ toZ w64 (ofZ w64 (c .before .args .d)))))))
       / natAbs (toZ w64 (ofZ w64 (c .before .args .d)))
-      ≡ raised / natAbs (c .before .args .d)
+      ≡ raised / d
   quotient = ap₂ (λ (y z : ℤ). natAbs y / natAbs z) (i-kept sum tt .eq) (d-is (c .before) .eq)
 
-  whole-is : Reads (toZ w64 (raised / natAbs (c .before .args .d))) (pos (raised / natAbs (c .before .args .d))) (largestNumerator + largestMultiple)
-  whole-is = i-cast (le-trans (div-le-self raised (natAbs (c .before .args .d))) (sum .bound .abs)) tt
+  whole-is : Reads (toZ w64 (raised / d)) (pos (raised / d)) (largestNumerator + largestMultiple)
+  whole-is = i-cast (le-trans (div-le-self raised d) (sum .bound .abs)) tt
 
   -- the difference of two numbers that are not negative is no larger than the larger of them
-  difference : Reads (toZ w64 (raised / natAbs (c .before .args .d)) -ℤ toZ w64 (ofZ w64 (c .raise .result))) (pos (raised / natAbs (c .before .args .d)) -ℤ pos (raises .count)) (largestNumerator + largestMultiple)
-  difference = i-bound (i- whole-is by-is) (apart (raised / natAbs (c .before .args .d)) (raises .count) (whole-is .bound .abs) (omega (arith, by-is .bound .abs)))
+  difference : Reads (toZ w64 (raised / d) -ℤ toZ w64 (ofZ w64 (c .raise .result))) (pos (raised / d) -ℤ pos (raises .count)) (largestNumerator + largestMultiple)
+  difference = i-bound (i- whole-is by-is) (apart (raised / d) (raises .count) (whole-is .bound .abs) (omega (arith, by-is .bound .abs)))
 
 mul-result : tie.Need-mul-result
 mul-result c = i-fits (product c) tt
@@ -84,8 +98,7 @@ sub-result : tie.Need-sub-result
 sub-result c = rw (quotient c) (i-fits (difference c) tt)
 
 returns : tie.Need-returns
-returns c = let s = c .before in rw (quotient c) (subst⁻¹ (Below (s .args .x) (natAbs (s .args .d))) (i-kept (difference c) tt .eq)
-    (whole-part (s .args .x) (raises c .count) (natAbs (s .args .d)) (raised c) (positive s) (raised-is (s .args .x) (raises c .count * natAbs (s .args .d)) (le-trans (s .pre .numerator .abs) (raises c .least)))))
+returns c = rw (quotient c) (subst⁻¹ (Below (x c) (d c)) (i-kept (difference c) tt .eq) (whole-part (x c) (raises c .count) (d c) (raised c) (positive (c .before)) (not-negative c)))
 
 pub whole-below-spec : {M : Type 1} → statement M
 whole-below-spec = tie.close (tie.spec raise-requires mul-result add-result cast-result cast-result-2 div-result cast-result-3 sub-result returns)
