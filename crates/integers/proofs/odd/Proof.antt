@@ -16,19 +16,16 @@ use Rattle.integers.proofs.Signed64.{i-arg, i-lit, i/, i-fits}
 use Rattle.integers.proofs.odd.Statement.{statement}
 use Rattle.integers.proofs.odd.Tie as tie
 
+-- a remainder by 2, with either sign
+bit-is : (signed : ℕ → ℤ) → boolByte (not (eqb (ofZ w64 (signed 0)) 0)) ≡ 0 → boolByte (not (eqb (ofZ w64 (signed 1)) 0)) ≡ 1
+    → (p : ℕ) → p < 2 → boolByte (not (eqb (ofZ w64 (signed p)) 0)) ≡ p
+bit-is signed e f zero h = e
+bit-is signed e f (suc zero) h = f
+bit-is signed e f (suc (suc p)) h = absurd (omega arith)
+
 odd-is : (z : ℤ) → boolByte (not (eqb (ofZ w64 (remZ z (pos 2))) 0)) ≡ natAbs z % 2
-odd-is (pos n) = go (n % 2) (mod-lt n {m = 2} (omega arith))
-  where
-    go : (p : ℕ) → p < 2 → boolByte (not (eqb p 0)) ≡ p
-    go zero h = refl
-    go (suc zero) h = refl
-    go (suc (suc p)) h = absurd (omega arith)
-odd-is (negsuc n) = go (suc n % 2) (mod-lt (suc n) {m = 2} (omega arith))
-  where
-    go : (p : ℕ) → p < 2 → boolByte (not (eqb (ofZ w64 (negℤ (pos p))) 0)) ≡ p
-    go zero h = refl
-    go (suc zero) h = refl
-    go (suc (suc p)) h = absurd (omega arith)
+odd-is (pos n) = bit-is pos refl refl (n % 2) (mod-lt n {m = 2} (omega arith))
+odd-is (negsuc n) = bit-is (λ p. negℤ (pos p)) refl refl (suc n % 2) (mod-lt (suc n) {m = 2} (omega arith))
 
 rem-result : tie.Need-rem-result
 rem-result c = (omega arith, i-fits (i/ (i-arg (c .fits .z) (c .pre)) (i-lit _)) tt)
