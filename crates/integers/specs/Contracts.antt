@@ -23,7 +23,7 @@ pub record Rounds (x d : ℤ) : Type 0 where
   pub divisor : d within largestDivisor
   pub positive : pos 0 <ℤ d
 
--- rounding to a grain: so often d is at least every numerator, and not much more
+-- rounding to a grain: r times d is at least every numerator, and not much more
 pub record Raises (d : ℕ) (r : ℤ) : Type 0 where
   pub count : ℕ
   pub is : r ≡ pos count

@@ -36,7 +36,7 @@ pub fn away_from_zero(x: i64, d: i64) -> i64
     farther(x, d) / (2 * d)
 }
 
-// A number of times that d is at least every numerator. It is even, which nothing asks: the compiler then reads off the quotient in
+// So many times d that no numerator is larger. The number is even, which nothing asks for: the compiler then reads off the quotient in
 // `whole_below` whether the whole part is odd.
 fn raise(d: i64) -> i64
     requires { ⌜ (d within largestDivisor) × (pos 0 <ℤ d) ⌝ }
