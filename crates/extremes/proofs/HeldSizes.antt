@@ -1,6 +1,6 @@
 -- The sizes that a slice of signed numbers holds.
 use Prim.Native.Nat.{ℕ, _≤_, _<_, _^_}
-use mathlib.Core.Path.{_≡_, refl, sym, ap, subst⁻¹, _∙_}
+use mathlib.Core.Path.{_≡_, refl, sym, ap, _∙_}
 use mathlib.Core.List.{List, map}
 use native.Mathlib.Omega.{arith}
 use lib.Dec.{T}
@@ -13,6 +13,7 @@ use mir.Facts.{toZ-ofZ}
 use Rattle.integers.specs.Sizes.{_within_}
 use Rattle.integers.specs.Lists.{_‼_, AllWithin}
 use Rattle.integers.proofs.SizeLaws.{by-abs}
+use Rattle.integers.proofs.Signed64.{unsigned}
 use Rattle.integers.proofs.RoundingLaws.{awayFromZero-size}
 use Rattle.integers.proofs.FillingLaws.{length-tab, tab-within}
 use Rattle.extremes.specs.Spreads.{sizeOf, sizesOf}
@@ -25,7 +26,7 @@ held-whole {work} l e = record { at = λ t. let q : work ‼ t ≡ pos (getD l t
 
 -- a number that is not negative is read by a cast
 pub whole-cast : {z : ℤ} → mag z < 2 ^ 63 → z ≡ pos (natAbs z) → T (nonNeg (toZ w64 (ofZ w64 z))) × Fits w64 (natAbs (toZ w64 (ofZ w64 z)))
-whole-cast {z} h e = rw (toZ-ofZ (record { sfits = h })) (subst⁻¹ (λ (y : ℤ). T (nonNeg y)) e tt, record { fits = omega (arith, natAbs-le z h) })
+whole-cast {z} h e = unsigned (toZ-ofZ (record { sfits = h }) ∙ e) (omega (arith, natAbs-le z h))
 
 -- ---- the sizes in a slice
 pub length-sizes : (work : List ℤ) → length (sizesIn work) ≡ length work

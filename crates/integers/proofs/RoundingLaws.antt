@@ -47,13 +47,17 @@ one-more b d rest l h e = record { near = omega (arith, apart); even = λ t. e (
     apart : natAbs (pos d *ℤ (b +ℤ pos 1) -ℤ (pos d *ℤ b +ℤ pos rest)) ≡ d - rest
     apart = rw (rep b) (simp (ringℤ, abs-⊖) (omega arith))
 
+-- whether a number is odd is one bit, and the number after an odd one is even
+pub bit-most : (n : ℕ) → n % 2 < 2
+bit-most n = mod-lt n {m = 2} (omega arith)
+
 odd-next : (b : ℤ) → natAbs b % 2 ≡ 1 → natAbs (b +ℤ pos 1) % 2 ≡ 0
 odd-next b h = subst⁻¹ (λ (z : ℤ). natAbs z % 2 ≡ 1 → natAbs (z +ℤ pos 1) % 2 ≡ 0) (rep b) (go (pp b) (nn b)) h
   where
     go : (a c : ℕ) → natAbs (a ⊖ c) % 2 ≡ 1 → natAbs (a ⊖ c +ℤ pos 1) % 2 ≡ 0
     go a c h =
         let e : natAbs (a ⊖ c +ℤ pos 1) ≡ (a + 1 - c) + (c - (a + 1)) = simp (ringℤ, abs-⊖) (omega arith) in
-        omega (arith, e, abs-⊖ a c, div-add-mod (natAbs (a ⊖ c)) 2, div-add-mod (natAbs (a ⊖ c +ℤ pos 1)) 2, mod-lt (natAbs (a ⊖ c +ℤ pos 1)) {m = 2} (omega arith))
+        omega (arith, e, abs-⊖ a c, div-add-mod (natAbs (a ⊖ c)) 2, div-add-mod (natAbs (a ⊖ c +ℤ pos 1)) 2, bit-most (natAbs (a ⊖ c +ℤ pos 1)))
 
 -- ---- toGrain gives such a number
 size-settled : (n d : ℕ) → 0 < d → NearestEven (pos n) d (pos (halfToEven n d))
@@ -70,7 +74,7 @@ size-settled n d h =
     even-one : (p : ℕ) → (n / d) % 2 ≡ p → 2 * (n % d) ≡ d → NearestEven (pos (d * (n / d) + n % d)) d (pos (n / d + p))
     even-one zero e t = rw (add-zero (n / d)) (stays (pos (n / d)) d (n % d) (omega arith) (λ _. e))
     even-one (suc zero) e t = one-more (pos (n / d)) d (n % d) (omega arith) (omega arith) (λ _. odd-next (pos (n / d)) e)
-    even-one (suc (suc p)) e t = absurd (omega (arith, mod-lt (n / d) {m = 2} (omega arith)))
+    even-one (suc (suc p)) e t = absurd (omega (arith, bit-most (n / d)))
 
     go : (a b : Bool) → (T a → 2 * (n % d) < d) → (T (not a) → d ≤ 2 * (n % d)) → (T b → d < 2 * (n % d)) → (T (not b) → 2 * (n % d) ≤ d)
         → NearestEven (pos (d * (n / d) + n % d)) d (pos (cond a (n / d) (cond b (n / d + 1) (n / d + (n / d) % 2))))
@@ -162,7 +166,7 @@ stays-is {x} {b} {d} h k = toGrain-settled x d (omega (arith, h .less)) .no-othe
 pub one-more-is : {x b : ℤ} {d : ℕ} (h : Below x d b) → d < 2 * h .rest + natAbs b % 2 → b +ℤ pos 1 ≡ toGrain x d
 one-more-is {x} {b} {d} h k = toGrain-settled x d (omega (arith, h .less)) .no-other (b +ℤ pos 1)
     (subst (λ (z : ℤ). NearestEven z d (b +ℤ pos 1)) (sym (h .is))
-    (one-more b d (h .rest) (omega (arith, h .less)) (omega (arith, mod-lt (natAbs b) {m = 2} (omega arith))) (λ t. odd-next b (omega (arith, mod-lt (natAbs b) {m = 2} (omega arith))))))
+    (one-more b d (h .rest) (omega (arith, h .less)) (omega (arith, bit-most (natAbs b))) (λ t. odd-next b (omega (arith, bit-most (natAbs b))))))
 
 -- ---- as the code works `away_from_zero`, with the quotient that cuts toward zero
 no-less : (n : ℕ) → n < 0 → ⊥

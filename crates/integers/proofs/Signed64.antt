@@ -69,10 +69,6 @@ pub pos-abs : (d : ℤ) → pos 0 <ℤ d → 0 < natAbs d
 pos-abs (pos n) h = ltb→lt 0 n (h .lt)
 pos-abs (negsuc n) h = omega arith
 
-pub pos-is : (d : ℤ) → pos 0 <ℤ d → d ≡ pos (natAbs d)
-pos-is (pos n) h = refl
-pos-is (negsuc n) h = absurd (h .lt)
-
 -- a value that is known to be within a bound that fits, as an element of a slice
 pub i-in : {x : ℤ} {B : ℕ} → x within B → Room B → Reads (toZ w64 (ofZ w64 x)) x B
 i-in {B = B} h k = i-arg (sfits64 h (ltb→lt B (2 ^ 63) k)) h
@@ -81,8 +77,12 @@ i-in {B = B} h k = i-arg (sfits64 h (ltb→lt B (2 ^ 63) k)) h
 pub i-in32 : {x : ℤ} {B : ℕ} → x within B → T (ltb B (2 ^ 31)) → Reads (toZ w32 (ofZ w32 x)) x B
 i-in32 {x} {B} h k = record { eq = toZ-ofZ {w = w32} (sfits32 h (ltb→lt B (2 ^ 31) k)); bound = h }
 
+-- another bound
+pub i-bound : {t z : ℤ} {A B : ℕ} → Reads t z A → z within B → Reads t z B
+i-bound h k = record { eq = h .eq; bound = k }
+
 pub i≤ : {t z : ℤ} {A B : ℕ} → Reads t z A → A ≤ B → Reads t z B
-i≤ h k = record { eq = h .eq; bound = w≤ (h .bound) k }
+i≤ h k = i-bound h (w≤ (h .bound) k)
 
 -- the same number, written another way
 pub i≡ : {t z z′ : ℤ} {B : ℕ} → Reads t z B → z ≡ z′ → Reads t z′ B
@@ -99,12 +99,20 @@ i-call f e h = record { eq = toZ-ofZ (record { sfits = f }) ∙ e; bound = h }
 pub i-cast : {n B : ℕ} → n ≤ B → Room B → Reads (toZ w64 n) (pos n) B
 i-cast h k = i-in (record { abs = h }) k
 
--- a tighter bound; a number that is not negative, cast to an unsigned one
-pub i-bound : {t z : ℤ} {A B : ℕ} → Reads t z A → z within B → Reads t z B
-i-bound h k = record { eq = h .eq; bound = k }
+-- a parameter that is positive
+pub i-positive : {d : ℤ} {B : ℕ} → SFits w64 d → d within B → pos 0 <ℤ d → Reads (toZ w64 (ofZ w64 d)) (pos (natAbs d)) B
+i-positive {d} f h p = i≡ (i-arg f h) (same d p)
+  where
+    same : (d : ℤ) → pos 0 <ℤ d → d ≡ pos (natAbs d)
+    same (pos n) h = refl
+    same (negsuc n) h = absurd (h .lt)
+
+-- a number that is not negative, cast to an unsigned one
+pub unsigned : {t : ℤ} {n : ℕ} → t ≡ pos n → n < 2 ^ 64 → T (nonNeg t) × Fits w64 (natAbs t)
+unsigned e h = rw e (tt, record { fits = h })
 
 pub i-unsigned : {t : ℤ} {n B : ℕ} → Reads t (pos n) B → Room B → T (nonNeg t) × Fits w64 (natAbs t)
-i-unsigned {n = n} {B = B} h k = rw (h .eq) (tt, record { fits = omega (arith, h .bound .abs, ltb→lt B (2 ^ 63) k) })
+i-unsigned {n = n} {B = B} h k = unsigned (h .eq) (omega (arith, h .bound .abs, ltb→lt B (2 ^ 63) k))
 
 -- what a call returned and a local keeps, read again
 pub kept : {z v : ℤ} → mag z < 2 ^ 63 → z ≡ v → toZ w64 (ofZ w64 z) ≡ v

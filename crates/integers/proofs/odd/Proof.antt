@@ -3,7 +3,6 @@
 use Prim.Native.Nat.{ℕ, zero, suc, _%_, _<_}
 use mathlib.Core.Path.{_≡_, refl, ap, _∙_}
 use mathlib.Core.Bool.{not}
-use native.Mathlib.Nat.{mod-lt}
 use native.Mathlib.Omega.{arith}
 use lib.Dec.{eqb}
 use lib.IntN.{ℤ, pos, negsuc, negℤ, natAbs}
@@ -12,6 +11,7 @@ use mir.Syntax.{w64}
 use mir.Val.{ofZ, boolByte}
 use mir.Facts.{toZ-ofZ}
 use borrow.Author.Needs.{needs}
+use Rattle.integers.proofs.RoundingLaws.{bit-most}
 use Rattle.integers.proofs.Signed64.{i-arg, i-lit, i/, i-fits}
 use Rattle.integers.proofs.odd.Statement.{statement}
 use Rattle.integers.proofs.odd.Tie as tie
@@ -24,8 +24,8 @@ bit-is signed e f (suc zero) h = f
 bit-is signed e f (suc (suc p)) h = absurd (omega arith)
 
 odd-is : (z : ℤ) → boolByte (not (eqb (ofZ w64 (remZ z (pos 2))) 0)) ≡ natAbs z % 2
-odd-is (pos n) = bit-is pos refl refl (n % 2) (mod-lt n {m = 2} (omega arith))
-odd-is (negsuc n) = bit-is (λ p. negℤ (pos p)) refl refl (suc n % 2) (mod-lt (suc n) {m = 2} (omega arith))
+odd-is (pos n) = bit-is pos refl refl (n % 2) (bit-most n)
+odd-is (negsuc n) = bit-is (λ p. negℤ (pos p)) refl refl (suc n % 2) (bit-most (suc n))
 
 rem-result : tie.Need-rem-result
 rem-result c = (omega arith, i-fits (i/ (i-arg (c .fits .z) (c .pre)) (i-lit _)) tt)

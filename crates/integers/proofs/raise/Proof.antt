@@ -7,13 +7,13 @@ use lib.IntN.{pos, natAbs, _*ℤ_}
 use mir.Syntax.{w64}
 use mir.Val.{toZ, ofZ}
 use Rattle.integers.specs.Contracts.{largestNumerator, largestDivisor}
-use Rattle.integers.proofs.Signed64.{Reads, i-arg, i-lit, i+, i*, i/, i≡, i-fits, i-kept, i-divisor, pos-is, pos-abs}
+use Rattle.integers.proofs.Signed64.{Reads, i-positive, i-lit, i+, i*, i/, i-fits, i-kept, i-divisor, pos-abs}
 use Rattle.integers.proofs.raise.Statement.{statement}
 use Rattle.integers.proofs.raise.Tie as tie
 
 module _ (s : tie.Start) where
   twice-d : Reads (pos 2 *ℤ toZ w64 (ofZ w64 (s .args .d))) (pos (2 * natAbs (s .args .d))) (2 * largestDivisor)
-  twice-d = i* (i-lit 2) (i≡ (i-arg (s .fits .d) (s .pre .0)) (pos-is (s .args .d) (s .pre .1)))
+  twice-d = i* (i-lit 2) (i-positive (s .fits .d) (s .pre .0) (s .pre .1))
 
 mul-result : tie.Need-mul-result
 mul-result c = i-fits (twice-d c) tt

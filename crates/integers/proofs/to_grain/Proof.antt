@@ -2,7 +2,7 @@
 -- Assumes nothing.
 use Prim.Native.Nat.{ℕ, _+_, _%_}
 use mathlib.Core.Path.{_≡_, refl, ap, subst, subst⁻¹, _∙_}
-use native.Mathlib.Nat.{le-trans, le-mul-of-pos-right, mod-lt}
+use native.Mathlib.Nat.{le-trans, le-mul-of-pos-right}
 use native.Mathlib.Omega.{arith}
 use lib.IntN.{ℤ, pos, natAbs, _-ℤ_, _*ℤ_}
 use mir.Syntax.{w64}
@@ -12,8 +12,8 @@ use Rattle.integers.specs.Sizes.{_within_}
 use Rattle.integers.specs.Contracts.{largestNumerator, largestDivisor, Below}
 use Rattle.integers.proofs.Differences.{rep, ringℤ}
 use Rattle.integers.proofs.SizeLaws.{by-abs, abs-mul, w-}
-use Rattle.integers.proofs.Signed64.{Reads, i-arg, i-call, i-lit, i+, i-, i*, i≡, i-bound, i-fits, i-kept, i-within, i-unsigned, pos-is}
-use Rattle.integers.proofs.RoundingLaws.{multiple-is, stays-is, one-more-is}
+use Rattle.integers.proofs.Signed64.{Reads, i-arg, i-positive, i-call, i-lit, i+, i-, i*, i≡, i-bound, i-fits, i-kept, i-within, i-unsigned}
+use Rattle.integers.proofs.RoundingLaws.{bit-most, multiple-is, stays-is, one-more-is}
 use Rattle.integers.proofs.to_grain.Statement.{statement}
 use Rattle.integers.proofs.to_grain.Tie as tie
 
@@ -28,7 +28,7 @@ module _ (s : tie.Start) where
   x-is = i-arg (s .fits .x) (s .pre .numerator)
 
   d-is : Reads (toZ w64 (ofZ w64 (s .args .d))) (pos (natAbs (s .args .d))) largestDivisor
-  d-is = i≡ (i-arg (s .fits .d) (s .pre .divisor)) (pos-is (s .args .d) (s .pre .positive))
+  d-is = i-positive (s .fits .d) (s .pre .divisor) (s .pre .positive)
 
 module _ (c : tie.After-whole-below) where
   abbrev x : ℤ
@@ -85,7 +85,7 @@ bit : (c : tie.After-odd) → c .odd .result ≡ natAbs (c .before .whole-below 
 bit c = c .odd .ensures ∙ ap (λ (z : ℤ). natAbs z % 2) (whole (c .before) .eq)
 
 add-if1 : tie.Need-add-if1
-add-if1 c = record { fits = omega (arith, rest-is (c .before), small (c .before), bit c, mod-lt (natAbs (c .before .whole-below .result)) {m = 2} (omega arith)) }
+add-if1 c = record { fits = omega (arith, rest-is (c .before), small (c .before), bit c, bit-most (natAbs (c .before .whole-below .result))) }
 
 add-result : tie.Need-add-result
 add-result c = i-fits (i+ (whole (c .before .before)) (i-lit 1)) tt

@@ -12,7 +12,7 @@ use Rattle.integers.specs.Sizes.{_within_}
 use Rattle.integers.specs.Contracts.{largestNumerator, largestDivisor, Raises, Below}
 use Rattle.integers.proofs.SizeLaws.{by-abs, abs-⊖, sfits64}
 use Rattle.integers.proofs.Differences.{ringℤ}
-use Rattle.integers.proofs.Signed64.{Reads, i-arg, i-call, i-cast, i+, i-, i*, i≡, i-bound, i-fits, i-kept, i-unsigned, pos-is, pos-abs}
+use Rattle.integers.proofs.Signed64.{Reads, i-arg, i-positive, i-call, i-cast, i+, i-, i*, i≡, i-bound, i-fits, i-kept, i-unsigned, pos-abs}
 use Rattle.integers.proofs.RoundingLaws.{raised-is, whole-part}
 use Rattle.integers.proofs.whole_below.Statement.{statement}
 use Rattle.integers.proofs.whole_below.Tie as tie
@@ -29,7 +29,7 @@ module _ (s : tie.Start) where
   positive = pos-abs (s .args .d) (s .pre .positive)
 
   d-is : Reads (toZ w64 (ofZ w64 (s .args .d))) (pos (natAbs (s .args .d))) largestDivisor
-  d-is = i≡ (i-arg (s .fits .d) (s .pre .divisor)) (pos-is (s .args .d) (s .pre .positive))
+  d-is = i-positive (s .fits .d) (s .pre .divisor) (s .pre .positive)
 
 raise-requires : tie.Need-raise-requires
 raise-requires c κs = search needs
