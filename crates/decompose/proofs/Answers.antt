@@ -11,13 +11,14 @@ use Rattle.refusals.specs.Sheet.{success}
 use Rattle.refusals.specs.declared.Refusal.{Refusal}
 use Rattle.refusals.proofs.CheckLaws.{no-success}
 use Rattle.series.specs.Operations.{minus, times}
+use Rattle.rows.specs.FilterTables.{tableHenderson}
 use Rattle.filters.specs.Filter.{filter}
 use Rattle.steps.specs.Steps.{S2}
 use Rattle.extremes.specs.Spreads.{sizesOf}
 use Rattle.extremes.specs.Weighing.{emptied}
 use Rattle.extremes.proofs.WeighingLaws.{never-emptied}
 use Rattle.extremes.proofs.YearLaws.{part-calendar}
-use Rattle.tables.specs.Tables.{choicesD, finalTrend, B1, B13, C13, D1, D10, D11, D12, D13}
+use Rattle.tables.specs.Tables.{choicesD, B1, B13, C13, D1, D10, D11, finalTerms, D12, D13}
 use Rattle.tables.specs.PassB.{startB4, irregularB4, irregularB9}
 use Rattle.tables.proofs.Sizes.{length-b1, length-irregularB4, length-irregularB9, length-b13, length-c13}
 use Rattle.tables.proofs.Nearness.{passes-near, near-at}
@@ -78,11 +79,11 @@ module _ (start : ℕ) (f : List ℤ) where
   unfolding D11 D10 B1
   d11-is = refl
 
-  d12-is : filter (finalTrend .table) (minus (D1 start f) (S2 choicesD (D1 start f))) ≡ D12 start f
+  d12-is : filter (tableHenderson (finalTerms start f)) (minus (D1 start f) (S2 choicesD (D1 start f))) ≡ D12 start f
   unfolding D12 D10
   d12-is = refl
 
-  d13-is : minus (minus (times unit f) (S2 choicesD (D1 start f))) (filter (finalTrend .table) (minus (D1 start f) (S2 choicesD (D1 start f)))) ≡ D13 start f
+  d13-is : minus (minus (times unit f) (S2 choicesD (D1 start f))) (filter (tableHenderson (finalTerms start f)) (minus (D1 start f) (S2 choicesD (D1 start f)))) ≡ D13 start f
   unfolding D13 D12 D11 D10 B1
   d13-is = refl
 

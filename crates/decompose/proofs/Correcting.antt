@@ -76,6 +76,6 @@ module _ {start : ℕ} {f s t : List ℤ} (h : Correctable start f s t) where
     })
 
     pub extremes-corrected : {r : Weighed} {w : List ℕ} {o : List ℤ} → r ≡ answerOf start monthsOfYear b → w ≡ weightsOf start monthsOfYear b → o ≡ minus b1 (corrections b w)
-        → ExtremesCorrected start b1 s t r o w
+        → ExtremesCorrected start b1 s t r o b w
     unfolding lessExtremes
-    extremes-corrected i j k = record { answered = i ∙ ap (answerOf start monthsOfYear) e; series = k ∙ rw (j, e); weights = j ∙ ap (weightsOf start monthsOfYear) e }
+    extremes-corrected i j k = record { answered = i ∙ ap (answerOf start monthsOfYear) e; series = k ∙ rw (j, e); irregular = e; weights = j ∙ ap (weightsOf start monthsOfYear) e }

@@ -11,9 +11,12 @@ use Rattle.series.specs.Operations.{minus, times}
 use Rattle.series.specs.Contracts.{Minusable}
 use Rattle.series.proofs.Lengths.{length-minus, length-times}
 use Rattle.series.proofs.Largest.{larger, within-minus}
+use Rattle.rows.specs.declared.Terms.{Terms}
+use Rattle.rows.specs.FilterTables.{tableHenderson}
 use Rattle.filters.specs.Filter.{filter}
 use Rattle.filters.proofs.Lengths.{length-filter}
-use Rattle.steps.specs.Choices.{Choices}
+use Rattle.filters.proofs.Light.{lightHenderson}
+use Rattle.steps.specs.Choices.{Choices, henderson}
 use Rattle.steps.specs.Steps.{T2, S2}
 use Rattle.steps.proofs.Sound.{Sound, monthly-sound, plain-sound}
 use Rattle.steps.proofs.Largest as pass
@@ -24,12 +27,14 @@ use Rattle.extremes.specs.Weighing.{answerOf}
 use Rattle.extremes.specs.declared.Weighed.{Weighed}
 use Rattle.extremes.specs.declared.Weighed.the-variants.{Weights, EmptyGroup}
 use Rattle.extremes.proofs.WeighingLaws.{always-weighed}
-use Rattle.tables.specs.Tables.{choicesD, finalTrend, irregularOf, B1, B7, B10, B13, B17, B20, C1, C7, C10, C13, C17, C20, D1}
+use Rattle.tables.specs.Tables.{choicesD, irregularOf, B1, B7, B10, B13, B17, B20, C1, C7, C10, C13, C17, C20, D1, finalTerms}
 use Rattle.tables.specs.Bounds.{largestC1, largestC7, largestD7, largestD10, largestD12}
-use Rattle.tables.proofs.Sizes.{length-irregular, length-c1, length-d1, within-c1, within-d1}
+use Rattle.tables.proofs.Sizes.{length-irregular, length-c1, length-c7, length-c13, length-d1, within-c1, within-c7, within-c13, within-d1}
+use Rattle.trend_length.specs.TrendLength.{trendLength}
+use Rattle.trend_length.specs.Contracts.{Measurable}
 use Rattle.figures.specs.Contracts.{WithSeasonal}
 use Rattle.checks.specs.Contracts.{Workable}
-use Rattle.decompose.specs.Contracts.{Correctable, lessExtremes, ExtremesCorrected, CorrectedTo, Final, Finished}
+use Rattle.decompose.specs.Contracts.{Correctable, lessExtremes, ExtremesCorrected, CorrectedTo, OfLength, Final, Finished}
 use Rattle.decompose.proofs.Grains.{within-grains}
 
 -- ---- passes B and C
@@ -70,7 +75,7 @@ module _ {start : ℕ} {f : List ℤ} (h : Workable start f) where
     pub correctable-b : {s t : List ℤ} → PassBDone start x t s → Correctable start f s t
     correctable-b d = correctable (monthly-sound _ _) (ap length e ∙ length-times unit f) (rw e (larger (within-grains (h .figures)) (omega arith))) (d .seasonal) (d .trend)
 
-    pub to-c1 : {s t o : List ℤ} {r : Weighed} {w : List ℕ} → PassBDone start x t s → ExtremesCorrected start (times unit f) s t r o w → CorrectedTo (C1 start f) (B17 start f) r o w
+    pub to-c1 : {s t o i : List ℤ} {r : Weighed} {w : List ℕ} → PassBDone start x t s → ExtremesCorrected start (times unit f) s t r o i w → CorrectedTo (C1 start f) (B17 start f) r o w
     unfolding lessExtremes C1 B20 B17 B13 B10 B7 B1
     to-c1 {s} {t} d k = record { answered = k .answered ∙ weighed s t; series-is = k .series ∙ rw (d .seasonal, d .trend, e); weights-is = k .weights ∙ rw (d .seasonal, d .trend, e) }
 
@@ -88,12 +93,27 @@ module _ {start : ℕ} {f : List ℤ} (h : Workable start f) where
     pub correctable-c : {s t : List ℤ} → PassDone x t s → Correctable start f s t
     correctable-c d = correctable plain-sound length-c small-c (d .seasonal) (d .trend)
 
-    pub to-d1 : {s t o : List ℤ} {r : Weighed} {w : List ℕ} → PassDone x t s → ExtremesCorrected start (times unit f) s t r o w → CorrectedTo (D1 start f) (C17 start f) r o w
+    pub to-d1 : {s t o i : List ℤ} {r : Weighed} {w : List ℕ} → PassDone x t s → ExtremesCorrected start (times unit f) s t r o i w
+        → CorrectedTo (D1 start f) (C17 start f) r o w × OfLength start f i t
     unfolding lessExtremes D1 C20 C17 C13 C10 C7 B1
-    to-d1 {s} {t} d k = record { answered = k .answered ∙ weighed s t; series-is = k .series ∙ rw (d .seasonal, d .trend, e); weights-is = k .weights ∙ rw (d .seasonal, d .trend, e) }
+    to-d1 {s} {t} d k = (
+      record { answered = k .answered ∙ weighed s t; series-is = k .series ∙ rw (d .seasonal, d .trend, e); weights-is = k .weights ∙ rw (d .seasonal, d .trend, e) },
+      record { irregular = k .irregular ∙ rw (d .seasonal, d .trend, e); trend = d .trend ∙ rw e },
+    )
 
   pub final : {x : List ℤ} → x ≡ D1 start f → Final f x
   final e = rw e (record { figures = h .figures; long = h .long; x-long = length-d1 start f; x-small = within-d1 start (h .figures .small) })
+
+  -- ---- the tables by which the length of the final trend is chosen
+  pub measurable : {i t : List ℤ} → OfLength start f i t → Measurable 6 i × Measurable 6 t
+  measurable {i} {t} q = rw (q .irregular, q .trend) (
+    record { long = omega (arith, h .long, length-c13 start f); short = omega (arith, h .figures .short, length-c13 start f); small = larger (within-c13 start (h .figures .small)) (omega arith) },
+    record { long = omega (arith, h .long, length-c7 start f); short = omega (arith, h .figures .short, length-c7 start f); small = larger (within-c7 start (h .figures .small)) (omega arith) },
+  )
+
+  pub final-terms : {m : Terms} {i t : List ℤ} → OfLength start f i t → m ≡ trendLength 6 i t → m ≡ finalTerms start f
+  unfolding finalTerms
+  final-terms q e = e ∙ rw (q .irregular, q .trend)
 
 -- ---- pass D
 module _ {f x : List ℤ} (h : Final f x) where
@@ -122,13 +142,18 @@ module _ {f x : List ℤ} (h : Final f x) where
   pub beside : {s : List ℤ} → s ≡ S2 choicesD x → WithSeasonal f s
   beside e = rw e (record { figures = h .figures; long = length-s2 choicesD x ∙ h .x-long; small = larger s2-small (omega arith) })
 
-  pub minusable : {s a t : List ℤ} → s ≡ S2 choicesD x → a ≡ minus (times unit f) s → t ≡ filter (finalTrend .table) (minus x s) → Minusable a t
-  minusable e i j = rw (i, j, e) (record {
+  pub minusable : (terms : Terms) {s a t : List ℤ} → s ≡ S2 choicesD x → a ≡ minus (times unit f) s → t ≡ filter (tableHenderson terms) (minus x s) → Minusable a t
+  minusable terms e i j = rw (i, j, e) (record {
     short = omega (arith, length-minus (times unit f) (S2 choicesD x), length-times unit f, h .figures .short);
-    long = omega (arith, length-minus (times unit f) (S2 choicesD x), length-times unit f, length-filter (finalTrend .table) (minus x (S2 choicesD x)), length-minus x (S2 choicesD x), h .x-long);
+    long = omega (arith, length-minus (times unit f) (S2 choicesD x), length-times unit f, length-filter (tableHenderson terms) (minus x (S2 choicesD x)), length-minus x (S2 choicesD x), h .x-long);
     left = larger (within-minus (within-grains (h .figures)) s2-small) (omega arith);
-    right = larger (pass.within-norm (within-minus (h .x-small) s2-small) finalTrend 1300 largestD12 (plain-sound .trend-norm) (omega arith)) (omega arith);
+    right = larger (pass.within-norm (within-minus (h .x-small) s2-small) (henderson terms) 1440 largestD12 (lightHenderson terms) (omega arith)) (omega arith);
   })
 
-pub finished : {b1 x s a t d : List ℤ} → s ≡ S2 choicesD x → a ≡ minus b1 s → t ≡ filter (finalTrend .table) (minus x s) → d ≡ minus a t → Finished b1 x s a t d
+pub finished : {terms : Terms} {b1 x s a t d : List ℤ} → s ≡ S2 choicesD x → a ≡ minus b1 s → t ≡ filter (tableHenderson terms) (minus x s) → d ≡ minus a t
+    → Finished terms b1 x s a t d
 finished e i j k = record { seasonal = e; adjusted = i ∙ rw e; trend = j ∙ rw e; irregular = k ∙ rw (i, j, e) }
+
+-- by another name of the length
+pub with-terms : {m terms : Terms} {b1 x s a t d : List ℤ} → m ≡ terms → Finished m b1 x s a t d → Finished terms b1 x s a t d
+with-terms e h = rw e at h

@@ -6,10 +6,12 @@ use native.Mathlib.Omega.{arith}
 use Rattle.integers.specs.Sums.{norm}
 use Rattle.integers.proofs.SumLaws.{sumN-upto}
 use Rattle.rows.specs.Table.{Table, rowWeight, denominator}
-use Rattle.rows.specs.FilterTables.{table2x12, table3x3, table3x5, tableHenderson}
+use Rattle.rows.specs.declared.Terms.{Terms}
+use Rattle.rows.specs.declared.Terms.the-variants.{Thirteen}
+use Rattle.rows.specs.FilterTables.{table2x12, table3x3, table3x5, tableHenderson, overHenderson}
 use Rattle.rows.proofs.RowTests.{all-at, fair, AllFair, Fair, fair-row}
 use Rattle.rows.proofs.Means.{mean, AllMeans, mean-row}
-use Rattle.rows.proofs.Rules.{means2x12, means3x3, means3x5, fairHenderson}
+use Rattle.rows.proofs.Rules.{means2x12, means3x3, means3x5, fairHenderson, fairThirteen}
 use Rattle.filters.specs.Filter.{earlier, later, rowAt}
 
 -- the row of a place is one of the table's, and has no more weights
@@ -38,7 +40,7 @@ all-light F L N ok = light-rows F L N (λ r l. fair-row F L N r (all-at (2 * F .
 pub all-means : (F : Table) (L : ℕ) → AllMeans L F → Light L 1000 F
 all-means F L ok = light-rows F L 1000 (λ r l. mean-row F L r (all-at (2 * F .side + 1) (mean L F) ok r l))
 
--- ---- the four filters
+-- ---- the filters
 pub light2x12 : Light 24 1000 table2x12
 light2x12 = all-means table2x12 24 means2x12
 
@@ -48,5 +50,8 @@ light3x3 = all-means table3x3 27 means3x3
 pub light3x5 : Light 60 1000 table3x5
 light3x5 = all-means table3x5 60 means3x5
 
-pub lightHenderson : Light 4_199_000_000 1300 tableHenderson
-lightHenderson = all-light tableHenderson 4_199_000_000 1300 fairHenderson
+pub lightHenderson : (m : Terms) → Light overHenderson 1440 (tableHenderson m)
+lightHenderson m = all-light (tableHenderson m) overHenderson 1440 (fairHenderson m)
+
+pub lightThirteen : Light overHenderson 1300 (tableHenderson Thirteen)
+lightThirteen = all-light (tableHenderson Thirteen) overHenderson 1300 fairThirteen

@@ -1,5 +1,7 @@
 -- The stored tables are what the code of a filter asks, by computation.
 use Rattle.integers.specs.Sums.{sumN}
+use Rattle.rows.specs.declared.Terms.{Terms}
+use Rattle.rows.specs.declared.Terms.the-variants.{Nine, Thirteen, TwentyThree}
 use Rattle.rows.specs.Table.{rowWeight}
 use Rattle.rows.specs.FilterTables.{table2x12, table3x3, table3x5, tableHenderson}
 use Rattle.filters.specs.Contracts.{Readable}
@@ -17,6 +19,8 @@ pub readable3x5 : Readable table3x5
 unfolding table3x5 rowWeight sumN
 readable3x5 = readable _ (tt, tt, tt, tt, tt, tt, tt, tt, tt, tt)
 
-pub readableHenderson : Readable tableHenderson
+pub readableHenderson : (m : Terms) → Readable (tableHenderson m)
 unfolding tableHenderson rowWeight sumN
-readableHenderson = readable _ (tt, tt, tt, tt, tt, tt, tt, tt, tt, tt)
+readableHenderson Nine = readable _ (tt, tt, tt, tt, tt, tt, tt, tt, tt, tt)
+readableHenderson Thirteen = readable _ (tt, tt, tt, tt, tt, tt, tt, tt, tt, tt)
+readableHenderson TwentyThree = readable _ (tt, tt, tt, tt, tt, tt, tt, tt, tt, tt)

@@ -16,7 +16,7 @@ use Rattle.filters.specs.Filter.{earlier, later, dot}
 abbrev pub largest : ℕ
 largest = 1_700_000_000_000
 
--- the sizes of a row's weights sum to no more: Henderson's ends have 1,299,902, and 23 terms would have 1,435,530
+-- the sizes of a row's weights sum to no more: the ends of Henderson's 23 terms have 1,435,530
 abbrev pub largestNorm : ℕ
 largestNorm = 1_440_000
 

@@ -10,12 +10,18 @@ ghost use Rattle.integers.specs.Rounding.{toGrain};
 ghost use Rattle.integers.specs.Filling.{Filled};
 ghost use Rattle.integers.specs.Contracts.{largestNumerator};
 ghost use Rattle.rows.specs.Table.{denominator};
+ghost use Rattle.rows.specs.declared.Terms.the-variants.{Nine, Thirteen, TwentyThree};
 ghost use Rattle.rows.specs.FilterTables.{table2x12, table3x3, table3x5, tableHenderson};
 ghost use Rattle.filters.specs.Filter.{dot, valueAt, filter, inside};
 ghost use Rattle.filters.specs.Contracts.{tableOf, largestOver, Dots, Filterable, Served, Serves, ServeInTurn, Filters, sum2x12};
 use rows::Shape;
-use rows::henderson_rows::ROWS_HENDERSON;
-use rows::henderson_rows::SHAPE_HENDERSON;
+use rows::Terms;
+use rows::henderson_9::ROWS_HENDERSON_9;
+use rows::henderson_9::SHAPE_HENDERSON_9;
+use rows::henderson_13::ROWS_HENDERSON_13;
+use rows::henderson_13::SHAPE_HENDERSON_13;
+use rows::henderson_23::ROWS_HENDERSON_23;
+use rows::henderson_23::SHAPE_HENDERSON_23;
 use rows::mean_rows::ROW_2X12;
 use rows::mean_rows::ROWS_3X3;
 use rows::mean_rows::ROWS_3X5;
@@ -147,13 +153,56 @@ pub fn three_by_five(x: &[i64], out: &mut [i64])
     fill_rows(SHAPE_3X5, &ROWS_3X5, x, 4, e, out);
 }
 
-// METHOD 2.5 and 2.6: Henderson's 13 terms, with Musgrave's ends.
-pub fn henderson(x: &[i64], out: &mut [i64])
+// Henderson's 9 terms, with Musgrave's ends.
+fn henderson_9(x: &[i64], out: &mut [i64])
+    requires { ⌜ Filterable (now x) × (8 ≤ length (now x)) × (length (now out) ≡ length (now x)) ⌝ }
+    ensures { λ _. ⌜ now (out .exit) ≡ filter (tableHenderson Nine) (now (x .entry)) ⌝ }
+{
+    let e = x.len() - 4;
+    fill_rows(SHAPE_HENDERSON_9, &ROWS_HENDERSON_9, x, 0, 0, out);
+    fill_row(SHAPE_HENDERSON_9, &ROWS_HENDERSON_9, x, 4, 4, 4, e, out);
+    fill_rows(SHAPE_HENDERSON_9, &ROWS_HENDERSON_9, x, 5, e, out);
+}
+
+// Henderson's 13 terms, with Musgrave's ends.
+fn henderson_13(x: &[i64], out: &mut [i64])
     requires { ⌜ Filterable (now x) × (12 ≤ length (now x)) × (length (now out) ≡ length (now x)) ⌝ }
-    ensures { λ _. ⌜ now (out .exit) ≡ filter tableHenderson (now (x .entry)) ⌝ }
+    ensures { λ _. ⌜ now (out .exit) ≡ filter (tableHenderson Thirteen) (now (x .entry)) ⌝ }
 {
     let e = x.len() - 6;
-    fill_rows(SHAPE_HENDERSON, &ROWS_HENDERSON, x, 0, 0, out);
-    fill_row(SHAPE_HENDERSON, &ROWS_HENDERSON, x, 6, 6, 6, e, out);
-    fill_rows(SHAPE_HENDERSON, &ROWS_HENDERSON, x, 7, e, out);
+    fill_rows(SHAPE_HENDERSON_13, &ROWS_HENDERSON_13, x, 0, 0, out);
+    fill_row(SHAPE_HENDERSON_13, &ROWS_HENDERSON_13, x, 6, 6, 6, e, out);
+    fill_rows(SHAPE_HENDERSON_13, &ROWS_HENDERSON_13, x, 7, e, out);
+}
+
+// Henderson's 23 terms, with Musgrave's ends.
+fn henderson_23(x: &[i64], out: &mut [i64])
+    requires { ⌜ Filterable (now x) × (22 ≤ length (now x)) × (length (now out) ≡ length (now x)) ⌝ }
+    ensures { λ _. ⌜ now (out .exit) ≡ filter (tableHenderson TwentyThree) (now (x .entry)) ⌝ }
+{
+    let e = x.len() - 11;
+    fill_rows(SHAPE_HENDERSON_23, &ROWS_HENDERSON_23, x, 0, 0, out);
+    fill_row(
+        SHAPE_HENDERSON_23,
+        &ROWS_HENDERSON_23,
+        x,
+        11,
+        11,
+        11,
+        e,
+        out,
+    );
+    fill_rows(SHAPE_HENDERSON_23, &ROWS_HENDERSON_23, x, 12, e, out);
+}
+
+// METHOD 2.5 and 2.6: Henderson's filter of so many terms, with Musgrave's ends.
+pub fn henderson(terms: Terms, x: &[i64], out: &mut [i64])
+    requires { ⌜ Filterable (now x) × (22 ≤ length (now x)) × (length (now out) ≡ length (now x)) ⌝ }
+    ensures { λ _. ⌜ now (out .exit) ≡ filter (tableHenderson terms) (now (x .entry)) ⌝ }
+{
+    match terms {
+        Terms::Nine => henderson_9(x, out),
+        Terms::Thirteen => henderson_13(x, out),
+        Terms::TwentyThree => henderson_23(x, out),
+    }
 }

@@ -77,9 +77,9 @@ pub record OfSI2 (h : ℕ) (si r out : List ℤ) : Type 0 where
   pub r-long : length r ≡ length si
   pub out-long : length out ≡ length si
 
--- a series and a seasonal, and what is left of the series without it; long enough for Henderson's ends
+-- a series and a seasonal, and what is left of the series without it; long enough for the ends of Henderson's 23 terms
 pub record Adjustable (x s : List ℤ) : Type 0 where
-  pub long : 12 ≤ length x
+  pub long : 22 ≤ length x
   pub both : Minusable x s
   pub less : AllWithin largest (minus x s)
 

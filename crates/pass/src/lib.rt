@@ -14,6 +14,7 @@ ghost use Rattle.steps.specs.Choices.{plainMonthly};
 ghost use Rattle.steps.specs.Steps.{SI1, S1, T2, S2};
 ghost use Rattle.steps.specs.Places.{widened};
 ghost use Rattle.pass.specs.Contracts.{lessLevels, withoutLevel, along, Along, PassSeries, Levels, Lent, OfSI1, OfSI2, Adjustable, Work, PassDone};
+use rows::Terms;
 
 // r at place t less level i.
 fn less_at(r: &[i64], m: &[i64], t: usize, i: usize) -> i64
@@ -114,13 +115,13 @@ fn first_seasonal(x: &[i64], p: &mut [i64], q: &mut [i64], r: &mut [i64], out: &
     seasonal_of_si1(q, p, r, out);
 }
 
-// Step 5: Henderson of x less a seasonal s, in out; a is work space. The final trend is worked in the same way.
-pub fn trend(x: &[i64], s: &[i64], a: &mut [i64], out: &mut [i64])
+// Step 5: Henderson's filter of so many terms of x less a seasonal s, in out; a is work space. The final trend is worked in the same way.
+pub fn trend(terms: Terms, x: &[i64], s: &[i64], a: &mut [i64], out: &mut [i64])
     requires { ⌜ Adjustable (now x) (now s) × (length (now a) ≡ length (now x)) × (length (now out) ≡ length (now x)) ⌝ }
-    ensures { λ _. ⌜ now (out .exit) ≡ filter tableHenderson (minus (now (x .entry)) (now (s .entry))) ⌝ }
+    ensures { λ _. ⌜ now (out .exit) ≡ filter (tableHenderson terms) (minus (now (x .entry)) (now (s .entry))) ⌝ }
 {
     series::minus(x, s, a);
-    filters::henderson(a, out);
+    filters::henderson(terms, a, out);
 }
 
 // Steps 6 and 7: S2 of x in out, from its T2.
@@ -140,6 +141,6 @@ pub fn one_pass(x: &[i64], a: &mut [i64], b: &mut [i64], t: &mut [i64], s: &mut 
     let e = x.len() - 12;
     let m = x.len() - 24;
     first_seasonal(x, &mut a[..e], &mut b[..e], &mut t[..m], s);
-    trend(x, s, a, t);
+    trend(Terms::Thirteen, x, s, a, t);
     second_seasonal(x, t, a, b, s);
 }

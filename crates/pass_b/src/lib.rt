@@ -12,6 +12,7 @@ ghost use Rattle.extremes.specs.Weighing.{weightsOf};
 ghost use Rattle.tables.specs.PassB.{weightsB4, choicesB4};
 ghost use Rattle.pass.specs.Contracts.{withoutLevel};
 ghost use Rattle.pass_b.specs.Contracts.{PassBSeries, PassBSlices, Weighs, SI2Replaced, PassBDone};
+use rows::Terms;
 
 // The weights of what the preliminary seasonal of si leaves of it, from the calendar month of its first value; r holds 3x3 or 3x5 of si. r, t and s
 // are then work space. No group is ever emptied (METHOD 5.8), so that the answer is not looked at.
@@ -108,7 +109,7 @@ pub fn pass_b(
         s,
         &mut w[..e],
     );
-    pass::trend(x, s, a, t);
+    pass::trend(Terms::Thirteen, x, s, a, t);
     replaced_si2(x, start, a, b, t, s, w);
     pass::seasonal_of_si2(b, a, s);
 }

@@ -2,13 +2,16 @@
 use mathlib.Core.Path.{_≡_}
 use mathlib.Core.Bool.{cond}
 use mathlib.Core.List.{List, [], _∷_, map}
-use Prim.Native.Nat.{ℕ, _+_, _-_}
+use Prim.Native.Nat.{ℕ, _+_, _*_, _-_, _%_}
 use lib.Dec.{eqb}
-use lib.IntN.{ℤ, pos, negsuc}
+use lib.IntN.{ℤ, pos, negsuc, negℤ}
 use Rattle.integers.specs.Lists.{_‼_, tab}
 use Rattle.integers.specs.Rounding.{toGrain}
 use Rattle.filters.specs.Filter.{filter, inside}
+use Rattle.rows.specs.declared.Terms.{Terms}
+use Rattle.rows.specs.declared.Terms.the-variants.{Nine, Thirteen, TwentyThree}
 use Rattle.rows.specs.FilterTables.{table2x12, table3x3, table3x5, tableHenderson}
+use Rattle.trend_length.specs.TrendLength.{monthChanges, termsFor}
 use Rattle.extremes.specs.Spreads.{sizeOf, spread, secondSpread}
 use Rattle.extremes.specs.Weighing.{weight, correctionOf}
 
@@ -39,30 +42,52 @@ whole = map pos
 abbrev at2x12 : List ℤ → List ℕ → List ℤ
 at2x12 x places = at (inside table2x12 x) (map (λ t. t - 6) places)
 
--- Henderson of 16,796 at place c: there, next to it and six places away
+-- Henderson's filter of so many terms, of v at place c: there, next to it and p places away
+abbrev hendersonOf : Terms → ℕ → ℕ → ℕ → List ℤ
+hendersonOf terms v c p = at (filter (tableHenderson terms) (one c v)) (c ∷ (c - 1) ∷ (c + 1) ∷ (c - p) ∷ (c + p) ∷ [])
+
+-- 13 terms of 16,796
 abbrev hendersonAround : ℕ → List ℤ
-hendersonAround c = at (filter tableHenderson (one c 16_796)) (c ∷ (c - 1) ∷ (c + 1) ∷ (c - 6) ∷ (c + 6) ∷ [])
+hendersonAround c = hendersonOf Thirteen 16_796 c 6
 
 abbrev hendersonWeights : List ℤ
 hendersonWeights = pos 4032 ∷ pos 3600 ∷ pos 3600 ∷ negsuc 324 ∷ negsuc 324 ∷ []
 
--- Henderson of 8,398 at place c: there, two places away and six, where half of 2,475 and half of -325 lie on halves
+-- 13 terms of 8,398 at place c: there, two places away and six, where half of 2,475 and half of -325 lie on halves
 abbrev hendersonHalves : ℕ → List ℤ
-hendersonHalves c = at (filter tableHenderson (one c 8_398)) (c ∷ (c - 2) ∷ (c + 2) ∷ (c - 6) ∷ (c + 6) ∷ [])
+hendersonHalves c = at (filter (tableHenderson Thirteen) (one c 8_398)) (c ∷ (c - 2) ∷ (c + 2) ∷ (c - 6) ∷ (c + 6) ∷ [])
 
 -- the sizes of the group of the last case
 abbrev exampleGroup : List ℕ
 exampleGroup = 0 ∷ 0 ∷ 0 ∷ 1 ∷ []
+
+-- METHOD 4.5: the squares of 0, 1, 2, .., by turns below zero, of n months; the number of terms for two sums
+abbrev squaresByTurns : ℕ → List ℤ
+squaresByTurns n = tab n (λ t. cond (eqb (t % 2) 0) (negℤ (pos (t * t))) (pos (t * t)))
+
+abbrev count : Terms → ℕ
+count Nine = 9
+count Thirteen = 13
+count TwentyThree = 23
+
+abbrev countFor : ℕ → ℕ → ℕ
+countFor i c = count (termsFor i c)
 
 -- METHOD 11: the list
 unfoldable pub pencil : List Case
 pencil =
     -- 2×12, 24,000 at one month: there, and six months away on both sides
     (at2x12 (one 30 24_000) (30 ∷ 24 ∷ 36 ∷ []) gives whole (2000 ∷ 1000 ∷ 1000 ∷ []))
-    -- Henderson, 16,796 at one month, twelve or more on each side, exactly twelve too: there, next to it, and six months away
+    -- Henderson's 13 terms, 16,796 at one month, twelve or more on each side, exactly twelve too: there, next to it, and six months away
     ∷ (hendersonAround 30 gives hendersonWeights)
     ∷ (hendersonAround 12 gives hendersonWeights)
     ∷ (hendersonAround 59 gives hendersonWeights)
+    -- 9 terms, 2,431 at one month: there, next to it, four months away and five; 23 terms, 1,000,000 at one month: there, next to it, eleven months
+    -- away and twelve
+    ∷ (hendersonOf Nine 2431 30 4 gives (pos 805 ∷ pos 648 ∷ pos 648 ∷ negsuc 98 ∷ negsuc 98 ∷ []))
+    ∷ (hendersonOf Nine 2431 30 5 gives (pos 805 ∷ pos 648 ∷ pos 648 ∷ pos 0 ∷ pos 0 ∷ []))
+    ∷ (hendersonOf TwentyThree 1_000_000 30 11 gives (pos 144_060 ∷ pos 138_318 ∷ pos 138_318 ∷ negsuc 4277 ∷ negsuc 4277 ∷ []))
+    ∷ (hendersonOf TwentyThree 1_000_000 30 12 gives (pos 144_060 ∷ pos 138_318 ∷ pos 138_318 ∷ pos 0 ∷ pos 0 ∷ []))
     -- 3×3, the last value of a run 27,000: the last three results. The run of places 11, 23, .. ends with 35, 47, 59, 71
     ∷ (at (filter table3x3 (one 71 27_000)) (47 ∷ 59 ∷ 71 ∷ []) gives whole (3000 ∷ 7000 ∷ 11_000 ∷ []))
     -- 3×5, the last value of a run 60,000: the last four results
@@ -88,6 +113,11 @@ pencil =
     -- the group of sizes 0, 0, 0, 1: both spreads, and the weights of its months
     ∷ (whole (spread exampleGroup ∷ secondSpread exampleGroup ∷ []) gives whole (0 ∷ 0 ∷ []))
     ∷ (whole (map (weight (secondSpread exampleGroup)) exampleGroup) gives whole (1000 ∷ 1000 ∷ 1000 ∷ 0 ∷ []))
+    -- the sum of the sizes of changes, of squares by turns below zero: 14, 15 and 16 months
+    ∷ (whole (map (λ n. monthChanges 6 (squaresByTurns n)) (14 ∷ 15 ∷ 16 ∷ [])) gives whole (85 ∷ 198 ∷ 343 ∷ []))
+    -- the terms for sums I and C of 0 and 0, 0 and 1, 99 and 100, 100 and 100, 349 and 100, 350 and 100, 1 and 0
+    ∷ (whole (countFor 0 0 ∷ countFor 0 1 ∷ countFor 99 100 ∷ countFor 100 100 ∷ countFor 349 100 ∷ countFor 350 100 ∷ countFor 1 0 ∷ [])
+    gives whole (13 ∷ 9 ∷ 9 ∷ 13 ∷ 13 ∷ 23 ∷ 23 ∷ []))
     ∷ []
 
 -- the whole list holds (shown in proofs/Cases.antt)

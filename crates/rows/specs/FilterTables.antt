@@ -1,7 +1,10 @@
--- METHOD 2.2 to 2.6: the four filters, each a table of rows.
+-- METHOD 2.2 to 2.6: the filters, each a table of rows.
+use Prim.Native.Nat.{ℕ}
+use Rattle.rows.specs.declared.Terms.{Terms}
+use Rattle.rows.specs.declared.Terms.the-variants.{Nine, Thirteen, TwentyThree}
 use Rattle.rows.specs.Table.{Table}
 use Rattle.rows.specs.MeanRows.{row2x12, rows3x3, rows3x5}
-use Rattle.rows.specs.HendersonRows.{rowsHenderson}
+use Rattle.rows.specs.HendersonRows.{rowsHenderson9, rowsHenderson13, rowsHenderson23}
 
 -- METHOD 2.2: 2×12 has a value only where six places stand on each side, so that its one row serves them all
 unfoldable pub table2x12 : Table
@@ -14,6 +17,12 @@ table3x3 = record { side = 2; step = 12; width = 5; rows = rows3x3; middle = 27;
 unfoldable pub table3x5 : Table
 table3x5 = record { side = 3; step = 12; width = 7; rows = rows3x5; middle = 60; ends = 60 }
 
--- METHOD 2.5 and 2.6: Henderson's 13 terms, with Musgrave's ends
-unfoldable pub tableHenderson : Table
-tableHenderson = record { side = 6; step = 1; width = 13; rows = rowsHenderson; middle = 16_796; ends = 1_000_000 }
+-- METHOD 2.5 and 2.6: Henderson's filter of so many terms, with Musgrave's ends
+unfoldable pub tableHenderson : Terms → Table
+tableHenderson Nine = record { side = 4; step = 1; width = 9; rows = rowsHenderson9; middle = 2_431; ends = 1_000_000 }
+tableHenderson Thirteen = record { side = 6; step = 1; width = 13; rows = rowsHenderson13; middle = 16_796; ends = 1_000_000 }
+tableHenderson TwentyThree = record { side = 11; step = 1; width = 23; rows = rowsHenderson23; middle = 1_000_000; ends = 1_000_000 }
+
+-- METHOD 6.1: a multiple of the denominators of Henderson's rows, 2,431, 16,796 and 1,000,000 (and of 286, that of 5 terms): one for all lengths
+abbrev pub overHenderson : ℕ
+overHenderson = 46_189_000_000

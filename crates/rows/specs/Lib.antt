@@ -3,5 +3,5 @@ pub mod Table
 pub mod MeanRows
 pub mod HendersonRows
 pub mod FilterTables
-pub mod RowRules
 pub mod Henderson
+pub mod RowRules

@@ -1,7 +1,7 @@
 -- METHOD 2.7: what the stored rows obey, whole tables at a time (shown in proofs/Rules.antt).
 use mathlib.Core.Path.{_≡_}
 use mathlib.Core.Bool.{cond}
-use mathlib.Core.List.{List, [], _∷_}
+use mathlib.Core.List.{List, _∷_, map}
 use Prim.Native.Nat.{ℕ, _+_, _*_, _-_, _/_, _%_, min}
 use lib.Dec.{ltb}
 use lib.ListN.{length}
@@ -9,9 +9,8 @@ use lib.IntN.{ℤ, pos}
 use Rattle.integers.specs.Lists.{tab}
 use Rattle.integers.specs.Sums.{sumZ}
 use Rattle.rows.specs.Table.{Table, rowWeight, denominator}
-use Rattle.rows.specs.MeanRows.{rows3x3, rows3x5}
-use Rattle.rows.specs.HendersonRows.{rowsHenderson}
 use Rattle.rows.specs.FilterTables.{table2x12, table3x3, table3x5, tableHenderson}
+use Rattle.rows.specs.Henderson.{lengths}
 
 -- how many values row r takes
 abbrev pub taken : Table → ℕ → ℕ
@@ -31,9 +30,13 @@ mirrored F = tab (length (F .rows)) (λ i.
     let k = i % F .width in
     cond (ltb k (taken F r)) (rowWeight F (2 * F .side - r) (taken F r - 1 - k)) (pos 0))
 
+-- the tables that serve the ends too
+abbrev pub tables : List Table
+tables = table3x3 ∷ table3x5 ∷ map tableHenderson lengths
+
 pub record RowRules : Type 0 where
   -- METHOD 2.1: each row sums to its denominator; 2×12 has its middle row alone, which is row 6 of 13
-  pub row-sums : (sums table3x3 ∷ sums table3x5 ∷ sums tableHenderson ∷ tab 1 (λ r. sumZ 13 (rowWeight table2x12 6)) ∷ [])
-      ≡ (denominators table3x3 ∷ denominators table3x5 ∷ denominators tableHenderson ∷ tab 1 (λ r. pos 24) ∷ [])
+  pub row-sums : map sums tables ≡ map denominators tables
+  pub row-sum-2x12 : sumZ 13 (rowWeight table2x12 6) ≡ pos (denominator table2x12 6)
   -- METHOD 2.1: the rows before the middle one are those after it, read backwards
-  pub mirrors : (mirrored table3x3 ∷ mirrored table3x5 ∷ mirrored tableHenderson ∷ []) ≡ (rows3x3 ∷ rows3x5 ∷ rowsHenderson ∷ [])
+  pub mirrors : map mirrored tables ≡ map (λ F. F .rows) tables

@@ -1,7 +1,7 @@
 -- What the functions ask of their arguments. Nothing here is promised to a caller of the desk.
 use mathlib.Core.Path.{_≡_}
 use mathlib.Core.List.{List}
-use Prim.Native.Nat.{ℕ, _≤_}
+use Prim.Native.Nat.{ℕ, _*_, _≤_}
 use lib.ListN.{length}
 use lib.IntN.{ℤ}
 use Rattle.integers.specs.Lists.{AllWithin}
@@ -17,6 +17,18 @@ pub record Minusable (x y : List ℤ) : Type 0 where
   pub long : length y ≡ length x
   pub left : AllWithin widest x
   pub right : AllWithin widest y
+
+-- a series and the changes into its months from `first` to below `hi`
+pub record Changing (x : List ℤ) (span first hi : ℕ) : Type 0 where
+  pub short : length x ≤ mostMonths
+  pub small : AllWithin widest x
+  pub back : span ≤ first
+  pub order : first ≤ hi
+  pub inside : hi ≤ length x
+
+-- no sum of changes is larger
+abbrev pub mostChange : ℕ
+mostChange = mostMonths * (2 * widest)
 
 -- figures within the limits, of a series that is not too long
 pub record Figures (figures : List ℤ) : Type 0 where

@@ -4,7 +4,7 @@ use Prim.Native.Nat.{ℕ, _≤_}
 use native.Mathlib.Omega.{arith}
 use Rattle.filters.specs.Filter.{reach}
 use Rattle.rows.specs.FilterTables.{table2x12}
-use Rattle.filters.proofs.Light.{Light, light2x12, light3x3, light3x5, lightHenderson}
+use Rattle.filters.proofs.Light.{Light, light2x12, light3x3, light3x5, lightThirteen}
 use Rattle.steps.specs.Choices.{MovingAverage, average3x5, Replacing, none, Choices, monthly, plainMonthly}
 
 -- the sizes of the weights of each row sum to at most N thousandths
@@ -12,13 +12,13 @@ abbrev pub Norm : ℕ → MovingAverage → Type 0
 Norm N f = Light (f .over) N (f .table)
 
 pub record Sound (c : Choices) : Type 0 where
-  -- non-negative weights that sum to one, and Henderson's
+  -- non-negative weights that sum to one, and Henderson's of 13 terms
   pub yearly-norm : Norm 1000 (c .yearly)
   pub seasonal1-norm : Norm 1000 (c .seasonal1)
   pub trend-norm : Norm 1300 (c .trend)
   pub seasonal2-norm : Norm 1000 (c .seasonal2)
-  -- the yearly average stands where half a year lies on each side
-  pub year-least : 1 ≤ c .halfYear
+  -- half a year is two quarters or more; the yearly average stands where half a year lies on each side
+  pub year-least : 2 ≤ c .halfYear
   pub reach-is : reach (c .yearly .table) ≡ c .halfYear
 
 -- the choices of every pass are sound, whatever is replaced
@@ -27,7 +27,7 @@ unfolding reach table2x12
 monthly-sound r s = record {
   yearly-norm = light2x12;
   seasonal1-norm = light3x3;
-  trend-norm = lightHenderson;
+  trend-norm = lightThirteen;
   seasonal2-norm = light3x5;
   year-least = omega arith;
   reach-is = refl;

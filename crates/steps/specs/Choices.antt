@@ -4,8 +4,10 @@ use mathlib.Core.List.{List}
 use Prim.Native.Nat.{ℕ, _*_}
 use lib.IntN.{ℤ}
 use Rattle.replacing.specs.Replaced.{common, replacedBy, exactReplacedBy}
+use Rattle.rows.specs.declared.Terms.{Terms}
+use Rattle.rows.specs.declared.Terms.the-variants.{Thirteen}
 use Rattle.rows.specs.Table.{Table}
-use Rattle.rows.specs.FilterTables.{table2x12, table3x3, table3x5, tableHenderson}
+use Rattle.rows.specs.FilterTables.{table2x12, table3x3, table3x5, tableHenderson, overHenderson}
 
 -- a moving average: its rows, and the denominator of its exact working, a multiple of those of the rows
 pub record MovingAverage : Type 0 where
@@ -22,9 +24,9 @@ average3x3 = record { table = table3x3; over = 27 }
 abbrev pub average3x5 : MovingAverage
 average3x5 = record { table = table3x5; over = 60 }
 
--- Henderson's 13 terms and its ends (METHOD 2.5, 2.6). 4,199,000,000 is the least common multiple of 16,796 and 1,000,000
-abbrev pub henderson13 : MovingAverage
-henderson13 = record { table = tableHenderson; over = 4_199_000_000 }
+-- Henderson's filter of so many terms, with its ends (METHOD 2.5, 2.6)
+abbrev pub henderson : Terms → MovingAverage
+henderson terms = record { table = tableHenderson terms; over = overHenderson }
 
 -- what is done to the values of SI1 or SI2 before they are filtered
 pub data Replacing : Type 0 where
@@ -70,7 +72,7 @@ monthly seasonal2 replacing1 replacing2 =
       halfYear = 6;
       yearly = average2x12;
       seasonal1 = average3x3;
-      trend = henderson13;
+      trend = henderson Thirteen;
       seasonal2 = seasonal2;
       replacing1 = replacing1;
       replacing2 = replacing2;

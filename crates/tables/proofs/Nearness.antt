@@ -12,11 +12,15 @@ use Rattle.series.specs.Operations.{minus}
 use Rattle.series.specs.Distance.{Close}
 use Rattle.series.proofs.Distances.{close-self, close-times, close-minus, close-less}
 use Rattle.series.proofs.Lengths.{length-minus, at-minus}
+use Rattle.rows.specs.declared.Terms.{Terms}
+use Rattle.rows.specs.FilterTables.{overHenderson}
+use Rattle.filters.proofs.Light.{lightHenderson}
+use Rattle.steps.specs.Choices.{henderson}
 use Rattle.steps.specs.Steps.{S2}
 use Rattle.steps.specs.Exact.{overS2, exactS2}
 use Rattle.steps.proofs.Sound.{monthly-sound, plain-sound}
 use Rattle.steps.proofs.Distances.{near, own-s2, close-norm}
-use Rattle.tables.specs.Tables.{choicesD, finalTrend, B1, B7, B10, C1, C7, C10, D1, D10, D11, D12, D13}
+use Rattle.tables.specs.Tables.{choicesD, B1, B7, B10, C1, C7, C10, D1, D10, D11, finalTerms, D12, D13}
 use Rattle.tables.specs.Exact.{overE, E10, E11, E12, E13}
 use Rattle.tables.specs.Nearness.{PassesNear, NearAt}
 use Rattle.tables.proofs.Sizes.{length-b1}
@@ -29,7 +33,7 @@ abbrev farS2 : ℕ
 farS2 = 9000
 
 abbrev farD12 : ℕ
-farD12 = 12_200
+farD12 = 13_460
 
 abbrev farD13 : ℕ
 farD13 = farS2 + farD12
@@ -59,22 +63,25 @@ module _ (start : ℕ) (f : List ℤ) where
   abbrev d1 : List ℤ
   d1 = D1 start f
 
+  abbrev terms : Terms
+  terms = finalTerms start f
+
   s2 : Close farS2 (overS2 choicesD) (S2 choicesD d1) (exactS2 choicesD d1)
   s2 = own-s2 plain-sound d1 farT2 (omega arith)
 
   d10 : Close farS2 overE (D10 start f) (E10 b1 d1)
   unfolding D10 E10
-  d10 = close-times (finalTrend .over) s2
+  d10 = close-times overHenderson s2
 
   d11 : Close farS2 overE (D11 start f) (E11 b1 d1)
   unfolding D11 E11
   d11 = close-less overE (close-self b1) d10 (le-refl farS2) refl
 
-  d12 : Close farD12 overE (D12 start f) (E12 b1 d1)
+  d12 : Close farD12 overE (D12 start f) (E12 b1 d1 terms)
   unfolding D12 D10 E12
-  d12 = close-norm (close-less (overS2 choicesD) (close-self d1) s2 (le-refl farS2) refl) finalTrend 1300 farD12 (plain-sound .trend-norm) (omega arith)
+  d12 = close-norm (close-less (overS2 choicesD) (close-self d1) s2 (le-refl farS2) refl) (henderson terms) 1440 farD12 (lightHenderson terms) (omega arith)
 
-  d13 : Close farD13 overE (D13 start f) (E13 b1 d1)
+  d13 : Close farD13 overE (D13 start f) (E13 b1 d1 terms)
   unfolding D13 E13
   d13 = close-minus d11 d12
 
@@ -83,7 +90,7 @@ module _ (start : ℕ) (f : List ℤ) where
   adds-up t h = adds b1 (D10 start f) (D12 start f) t h
 
   -- the tables of the rules, at each month
-  pub near-at : (t : ℕ) → t < length f → NearAt b1 d1 (D10 start f) (D11 start f) (D12 start f) (D13 start f) t
+  pub near-at : (t : ℕ) → t < length f → NearAt b1 d1 terms (D10 start f) (D11 start f) (D12 start f) (D13 start f) t
   near-at t h = record {
     seasonal = omega (arith, d10 .close t);
     adjusted = omega (arith, d11 .close t);

@@ -15,12 +15,12 @@ use Rattle.steps.specs.Choices.{Choices, plainMonthly}
 use Rattle.steps.specs.Steps.{SI1, innerS1, T2, SI2, S2}
 use Rattle.steps.proofs.Sound.{Sound, monthly-sound}
 use Rattle.steps.proofs.Largest as pass
-use Rattle.steps.proofs.Lengths.{length-si1, length-si2}
+use Rattle.steps.proofs.Lengths.{length-si1, length-t2, length-si2}
 use Rattle.extremes.specs.Weighing.{correctionOf}
 use Rattle.extremes.proofs.WeighingLaws.{correction-within}
 use Rattle.tables.specs.PassB.{irregularB4, choicesB4, irregularB9}
-use Rattle.tables.specs.Tables.{irregularOf, corrections, B1, B7, B10, B13, B20, C1, C7, C10, C13, C20, D1}
-use Rattle.tables.specs.Bounds.{largestB1, largestB7, largestC1, largestC7, largestD1}
+use Rattle.tables.specs.Tables.{choicesC, irregularOf, corrections, B1, B7, B10, B13, B20, C1, C7, C10, C13, C20, D1}
+use Rattle.tables.specs.Bounds.{largestB1, largestB7, largestC1, largestC7, largestC13, largestD1}
 
 -- ---- what a seasonal and a trend leave, and its corrections
 pub length-irregular : (b1 s t : List ℤ) → length (irregularOf b1 s t) ≡ length b1
@@ -58,6 +58,10 @@ module _ (start : ℕ) (f : List ℤ) where
   unfolding C1
   length-c1 = length-minus (B1 start f) (B20 start f) ∙ length-b1
 
+  pub length-c7 : length (C7 start f) ≡ length f
+  unfolding C7
+  length-c7 = length-t2 choicesC (C1 start f) ∙ length-c1
+
   pub length-c13 : length (C13 start f) ≡ length f
   unfolding C13
   length-c13 = length-irregular (B1 start f) (C10 start f) (C7 start f) ∙ length-b1
@@ -72,15 +76,26 @@ module _ (start : ℕ) {f : List ℤ} (h : AllWithin largestFigure f) where
   unfolding B1
   within-b1 = within-times unit f h
 
-  -- B1 less the corrections of what a pass on x leaves, where x is at most b and T2 at most t
-  within-corrected : {c : Choices} → Sound c → {b : ℕ} {x : List ℤ} → AllWithin b x → (t : ℕ) → 13 * b ≤ 2 * t → (w : List ℕ)
-      → AllWithin (largestB1 + (largestB1 + (2 * b + 2 * t) + t)) (minus (B1 start f) (corrections (irregularOf (B1 start f) (S2 c x) (T2 c x)) w))
-  within-corrected ok k t i w = within-minus within-b1 (within-corrections w (within-irregular within-b1 (pass.s2 ok k t i) (pass.t2 ok k t i)))
+  -- what a pass on x leaves of B1, where x is at most b and T2 at most t; and B1 less its corrections
+  within-left : {c : Choices} → Sound c → {b : ℕ} {x : List ℤ} → AllWithin b x → (t : ℕ) → 13 * b ≤ 2 * t
+      → AllWithin (largestB1 + (2 * b + 2 * t) + t) (irregularOf (B1 start f) (S2 c x) (T2 c x))
+  within-left ok k t i = within-irregular within-b1 (pass.s2 ok k t i) (pass.t2 ok k t i)
+
+  within-corrected : {b : ℕ} {z : List ℤ} → AllWithin b z → (w : List ℕ) → AllWithin (largestB1 + b) (minus (B1 start f) (corrections z w))
+  within-corrected h w = within-minus within-b1 (within-corrections w h)
 
   pub within-c1 : AllWithin largestC1 (C1 start f)
   unfolding C1 B20 B13 B10 B7
-  within-c1 = within-corrected (monthly-sound _ _) within-b1 largestB7 (omega arith) _
+  within-c1 = within-corrected (within-left (monthly-sound _ _) within-b1 largestB7 (omega arith)) _
+
+  pub within-c7 : AllWithin largestC7 (C7 start f)
+  unfolding C7
+  within-c7 = pass.t2 (monthly-sound _ _) within-c1 largestC7 (omega arith)
+
+  pub within-c13 : AllWithin largestC13 (C13 start f)
+  unfolding C13 C10 C7
+  within-c13 = within-left (monthly-sound _ _) within-c1 largestC7 (omega arith)
 
   pub within-d1 : AllWithin largestD1 (D1 start f)
-  unfolding D1 C20 C13 C10 C7
-  within-d1 = within-corrected (monthly-sound _ _) within-c1 largestC7 (omega arith) _
+  unfolding D1 C20
+  within-d1 = within-corrected within-c13 _

@@ -38,6 +38,6 @@ largestD7 = 659_425_000_000
 abbrev pub largestD10 : ℕ
 largestD10 = 2 * largestD1 + 2 * largestD7
 
--- 1.3 times D1 less D10, and a little more
+-- 1.44 times D1 less D10, and a little more
 abbrev pub largestD12 : ℕ
-largestD12 = 2_200_000_000_000
+largestD12 = 2_340_000_000_000

@@ -1,4 +1,5 @@
--- METHOD 4.4: a flooded January, worked through pass B (shown in proofs/Examples.antt). The numbers are those of the separately written program.
+-- METHOD 4.4: a flooded January, worked through pass B; METHOD 4.5: the length of a final trend (shown in proofs/Examples.antt). The numbers are
+-- those of the separately written program.
 use mathlib.Core.Path.{_≡_}
 use mathlib.Core.Bool.{cond}
 use mathlib.Core.List.{List, [], _∷_}
@@ -8,10 +9,12 @@ use lib.ListN.{getD}
 use lib.IntN.{ℤ, pos, negℤ}
 use Rattle.integers.specs.Lists.{tab}
 use Rattle.refusals.specs.Limits.{monthsOfYear}
+use Rattle.rows.specs.declared.Terms.the-variants.{Thirteen}
+use Rattle.trend_length.specs.TrendLength.{monthChanges}
 use Rattle.steps.specs.Choices.{plainMonthly}
 use Rattle.steps.specs.Steps.{S2}
 use Rattle.tables.specs.PassB.{weightsB4, weightsB9}
-use Rattle.tables.specs.Tables.{B1, B10}
+use Rattle.tables.specs.Tables.{B1, B10, C7, C13, finalTerms}
 
 -- METHOD 4.4: 72 figures from start month 7, each 1,000 and the remainder of t times t by 17; but 500 at t = 18, the second January
 unfoldable pub flooded : List ℤ
@@ -29,3 +32,14 @@ pub record FloodedJanuary : Type 0 where
   -- were no value replaced, the flood would colour all of them
   pub unreplaced : yearByYear (pos 0) 6 6 (S2 plainMonthly (B1 7 flooded))
       ≡ negℤ (pos 133362) ∷ negℤ (pos 117774) ∷ negℤ (pos 99436) ∷ negℤ (pos 61201) ∷ negℤ (pos 30695) ∷ negℤ (pos 2958) ∷ []
+
+-- METHOD 4.5: 72 figures from start month 7, each 1,000, eight times t and the remainder of 6 t² + 7 t by 11; but 1,305 at t = 50
+unfoldable pub uneven : List ℤ
+uneven = tab 72 (λ t. cond (eqb t 50) (pos 1305) (pos (1000 + 8 * t + (6 * t * t + 7 * t) % 11)))
+
+-- METHOD 4.5: I is just above C, so that the final trend has 13 terms. By the tables of pass B or D, or by one more month at the beginning, it would
+-- be just below
+pub record JustAbove : Type 0 where
+  pub irregular : monthChanges 6 (C13 7 uneven) ≡ 471_046
+  pub trend : monthChanges 6 (C7 7 uneven) ≡ 470_069
+  pub terms : finalTerms 7 uneven ≡ Thirteen

@@ -7,20 +7,20 @@ use Rattle.integers.specs.Lists.{_‼_, tab}
 use Rattle.refusals.specs.Limits.{unit, monthsOfYear}
 use Rattle.series.specs.Operations.{minus, times}
 use Rattle.filters.specs.Filter.{filter}
-use Rattle.steps.specs.Choices.{MovingAverage, henderson13, Choices, plainMonthly}
+use Rattle.rows.specs.declared.Terms.{Terms}
+use Rattle.rows.specs.FilterTables.{tableHenderson}
+use Rattle.trend_length.specs.TrendLength.{trendLength}
+use Rattle.steps.specs.Choices.{Choices, plainMonthly}
 use Rattle.steps.specs.Steps.{T2, S2}
 use Rattle.extremes.specs.Weighing.{weightsOf, correctionOf}
 use Rattle.tables.specs.PassB.{choicesB}
 
--- METHOD 3.10 and 4.3, what passes C and D choose (for pass B see PassB): they replace no value; D12 takes Henderson's 13 terms
+-- METHOD 3.10, what passes C and D choose (for pass B see PassB): they replace no value
 abbrev pub choicesC : Choices
 choicesC = plainMonthly
 
 abbrev pub choicesD : Choices
 choicesD = plainMonthly
-
-abbrev pub finalTrend : MovingAverage
-finalTrend = henderson13
 
 -- METHOD 4.1 and 4.2: the irregular, what a seasonal and a trend leave of B1: B13 and C13
 unfoldable pub irregularOf : List ℤ → List ℤ → List ℤ → List ℤ
@@ -83,9 +83,14 @@ module _ (start : ℕ) (figures : List ℤ) where
   unfoldable pub D11 : List ℤ
   D11 = minus B1 D10
 
-  -- METHOD 4.3: D12, the final trend-cycle, is Henderson's filter of the difference D1 less D10; D13, the final irregular, is D11 less D12
+  -- METHOD 4.5: how many terms the final trend's filter has, by the noise of C13 beside C7
+  unfoldable pub finalTerms : Terms
+  finalTerms = trendLength (choicesC .halfYear) C13 C7
+
+  -- METHOD 4.3: D12, the final trend-cycle, is Henderson's filter of that length, of the difference D1 less D10; D13, the final irregular, is D11 less
+  -- D12
   unfoldable pub D12 : List ℤ
-  D12 = filter (finalTrend .table) (minus D1 D10)
+  D12 = filter (tableHenderson finalTerms) (minus D1 D10)
 
   unfoldable pub D13 : List ℤ
   D13 = minus D11 D12

@@ -18,7 +18,7 @@ adjusted-requires c κs = let p = c .before .before .before .before .before .bef
 
 minus-requires : tie.Need-minus-requires
 minus-requires c κs = let d = c .before .before .before .before in let t = d .before .before .before .before .before in let p = t .before .before .before .before .before .before .before .before in let s = p .before .before .before .before .before in
-    (minusable (s .pre .0) (p .one-pass .ensures .seasonal) (d .adjusted .ensures) (t .trend .ensures), omega (arith, s .pre .1))
+    (minusable (s .pre .0) (s .args .terms) (p .one-pass .ensures .seasonal) (d .adjusted .ensures) (t .trend .ensures), omega (arith, s .pre .1))
 
 same-length : tie.Need-same-length
 same-length c = search needs

@@ -11,7 +11,7 @@ use Rattle.integers.proofs.Fronts.{front-long, front-back, front-kept, front-re
 use Rattle.tables.specs.Tables.{D1}
 use Rattle.checks.specs.Answer.{scratchFor}
 use Rattle.decompose.specs.Promise.{zeroed}
-use Rattle.decompose.proofs.Passes.{final, not-both}
+use Rattle.decompose.proofs.Passes.{final, measurable, final-terms, with-terms, not-both}
 use borrow.Author.Needs.{needs}
 use Rattle.decompose.proofs.three_passes.Statement.{statement}
 use Rattle.decompose.proofs.three_passes.Tie as tie
@@ -42,6 +42,10 @@ module _ (q : tie.After-corrected-series) where
   cleared : zeroed n (x ++ drop n (s .args .scratch .now)) ≡ zeroed n (s .args .scratch .now)
   unfolding zeroed
   cleared = ap (λ (l : List ℤ). tab (scratchFor n) (λ _. pos 0) ++ l) (front-rest n (s .args .scratch .now) room x same (scratchFor n) (omega arith))
+
+-- the corrected series, from after the length is chosen
+abbrev corrected : tie.After-trend-length → tie.After-corrected-series
+corrected m = m .before .before .before .before .before .before .before .before .before .before .before .before .before .before
 
 slice-relend-prefix-corrected-series : tie.Need-slice-relend-prefix-corrected-series
 slice-relend-prefix-corrected-series c = search needs
@@ -86,18 +90,21 @@ same-length-7 c = search needs
 returns : tie.Need-returns
 returns c = let q = c .before .before .before .before .before .before .before .before .before .before .before .before .before .before in absurd (not-both (q .corrected-series .ensures .answered) (c .before .before .before .enum-told2 .given .1))
 
+trend-length-requires : tie.Need-trend-length-requires
+trend-length-requires c κs = let q = c .before .before .before .before .before .before .before .before .before .before .before .before .before in let s = q .before .before .before .before .before .before .before .before .before .before in measurable (s .pre .0) (q .corrected-series .ensures .of-length)
+
 slice-reshare-prefix-final-tables : tie.Need-slice-reshare-prefix-final-tables
 slice-reshare-prefix-final-tables c = search needs
 
 slice-aggregate-final-tables : tie.Need-slice-aggregate-final-tables
-slice-aggregate-final-tables c = let q = c .before .before .before .before .before .before .before .before .before .before .before .before in front-long _ _ (omega (arith, kept q, room q))
+slice-aggregate-final-tables c = let q = corrected (c .before) in front-long _ _ (omega (arith, kept q, room q))
 
 final-tables-requires : tie.Need-final-tables-requires
-final-tables-requires c κs = let q = c .before .before .before .before .before .before .before .before .before .before .before .before .before .before .before .before in let s = q .before .before .before .before .before .before .before .before .before .before in let g = q .corrected-series in
+final-tables-requires c κs = let q = corrected (c .before .before .before .before .before) in let s = q .before .before .before .before .before .before .before .before .before .before in let g = q .corrected-series in
     (final (s .pre .0) (back q), record { a-long = omega (arith, s .pre .1, g); b-long = omega (arith, s .pre .1, g); t-long = omega (arith, s .pre .1, g); s-long = omega (arith, s .pre .1, g) })
 
 clear-requires-2 : tie.Need-clear-requires-2
-clear-requires-2 c κs = let q = c .before .before .before .before .before .before .before .before .before .before .before .before .before .before .before .before .before .before .before .before .before .before in let s = q .before .before .before .before .before .before .before .before .before .before in (s .pre .0 .figures .short, omega (arith, kept q, s .pre .3 .long))
+clear-requires-2 c κs = let q = corrected (c .before .before .before .before .before .before .before .before .before .before .before) in let s = q .before .before .before .before .before .before .before .before .before .before in (s .pre .0 .figures .short, omega (arith, kept q, s .pre .3 .long))
 
 same-length-8 : tie.Need-same-length-8
 same-length-8 c = search needs
@@ -121,8 +128,8 @@ same-length-14 : tie.Need-same-length-14
 same-length-14 c = search needs
 
 returns-2 : tie.Need-returns-2
-returns-2 c = let g = c .before .before .before .before .before .before .before in let q = g .before .before .before .before .before .before .before .before .before .before .before .before .before .before .before .before .before in let s = q .before .before .before .before .before .before .before .before .before .before in let e = q .corrected-series .ensures in
-    record { answered = refl; tables = rw (back q) at (g .final-tables .ensures); b17-is = e .b17-is; c17-is = e .c17-is; scratch-is = c .before .clear2 .ensures ∙ cleared q }
+returns-2 c = let g = c .before .before .before .before .before .before .before in let m = g .before .before .before .before .before .before in let q = corrected m in let s = q .before .before .before .before .before .before .before .before .before .before in let e = q .corrected-series .ensures in
+    record { answered = refl; tables = with-terms (final-terms (s .pre .0) (e .of-length) (m .trend-length .ensures)) (rw (back q) at (g .final-tables .ensures)); b17-is = e .b17-is; c17-is = e .c17-is; scratch-is = c .before .clear2 .ensures ∙ cleared q }
 
 pub three-passes-spec : {M : Type 1} → statement M
 three-passes-spec =
@@ -142,6 +149,7 @@ three-passes-spec =
     same-length-6
     same-length-7
     returns
+    trend-length-requires
     slice-reshare-prefix-final-tables
     slice-aggregate-final-tables
     final-tables-requires

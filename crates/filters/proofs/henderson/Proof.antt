@@ -1,63 +1,58 @@
--- `filters::henderson` meets its contract: three stretches by the rows of its table.
+-- `filters::henderson` meets its contract: each arm has the filter of its length.
 -- Assumes nothing.
-use Rattle.rows.specs.FilterTables.{tableHenderson}
-use Rattle.filters.proofs.Stored.{readableHenderson}
-use Rattle.filters.proofs.Stretches.{Fillable, start-asks, inside-asks, end-asks, all-filled}
 use borrow.Author.Needs.{needs}
 use Rattle.filters.proofs.henderson.Statement.{statement}
 use Rattle.filters.proofs.henderson.Tie as tie
 
--- the start of the function, from after its first call
-abbrev from : tie.After-fill-rows → tie.Start
-from a = a .before .before .before
+enum-told : tie.Need-enum-told
+enum-told c = search needs
 
-fillable : (s : tie.Start) → Fillable tableHenderson (s .args .x .now) (s .args .out .now)
-unfolding tableHenderson
-fillable s = record { filterable = s .pre .0; long = s .pre .1; same = s .pre .2 }
+henderson-9-requires : tie.Need-henderson-9-requires
+henderson-9-requires c κs = search needs
 
-sub-e : tie.Need-sub-e
-sub-e c = search needs
+enum-told-2 : tie.Need-enum-told-2
+enum-told-2 c = search needs
 
-slice-aggregate-fill-rows : tie.Need-slice-aggregate-fill-rows
-slice-aggregate-fill-rows c = search needs
+henderson-13-requires : tie.Need-henderson-13-requires
+henderson-13-requires c κs = search needs
 
-fill-rows-requires : tie.Need-fill-rows-requires
-unfolding tableHenderson
-fill-rows-requires c κs = let s = c .before .before in start-asks readableHenderson (fillable s)
+enum-told-3 : tie.Need-enum-told-3
+enum-told-3 c = search needs
 
-slice-aggregate-fill-row : tie.Need-slice-aggregate-fill-row
-slice-aggregate-fill-row c = search needs
-
-fill-row-requires : tie.Need-fill-row-requires
-unfolding tableHenderson
-fill-row-requires c κs = let a = c .before .before .before in let s = from a in inside-asks readableHenderson (fillable s) (a .fill-rows .ensures)
-
-slice-aggregate-fill-rows-2 : tie.Need-slice-aggregate-fill-rows-2
-slice-aggregate-fill-rows-2 c = search needs
-
-fill-rows-requires-2 : tie.Need-fill-rows-requires-2
-unfolding tableHenderson
-fill-rows-requires-2 c κs = let b = c .before .before .before in let a = b .before .before .before .before in let s = from a in
-    end-asks readableHenderson (fillable s) (a .fill-rows .ensures) (b .fill-row .ensures)
+henderson-23-requires : tie.Need-henderson-23-requires
+henderson-23-requires c κs = search needs
 
 same-length : tie.Need-same-length
 same-length c = search needs
 
 returns : tie.Need-returns
-unfolding tableHenderson
-returns c = let d = c .before in let b = d .before .before .before .before in let a = b .before .before .before .before in let s = from a in
-    all-filled readableHenderson (fillable s) (a .fill-rows .ensures) (b .fill-row .ensures) (d .fill-rows2 .ensures)
+returns c = rw (c .before .before .before .enum-told .given .1) (c .before .henderson-9 .ensures)
+
+same-length-2 : tie.Need-same-length-2
+same-length-2 c = search needs
+
+returns-2 : tie.Need-returns-2
+returns-2 c = rw (c .before .before .before .enum-told2 .given .1) (c .before .henderson-13 .ensures)
+
+same-length-3 : tie.Need-same-length-3
+same-length-3 c = search needs
+
+returns-3 : tie.Need-returns-3
+returns-3 c = rw (c .before .before .before .enum-told3 .given .1) (c .before .henderson-23 .ensures)
 
 pub henderson-spec : {M : Type 1} → statement M
 henderson-spec =
     tie.close
     (tie.spec
-    sub-e
-    slice-aggregate-fill-rows
-    fill-rows-requires
-    slice-aggregate-fill-row
-    fill-row-requires
-    slice-aggregate-fill-rows-2
-    fill-rows-requires-2
+    enum-told
+    henderson-9-requires
+    enum-told-2
+    henderson-13-requires
+    enum-told-3
+    henderson-23-requires
     same-length
-    returns)
+    returns
+    same-length-2
+    returns-2
+    same-length-3
+    returns-3)

@@ -23,7 +23,7 @@ same-length-2 : tie.Need-same-length-2
 same-length-2 c = search needs
 
 returns : tie.Need-returns
-returns c = let m = c .before .before .before .before .before in c .before .henderson .ensures ∙ ap (filter tableHenderson) (m .minus .ensures)
+returns c = let m = c .before .before .before .before .before in c .before .henderson .ensures ∙ ap (filter (tableHenderson (m .before .before .args .terms))) (m .minus .ensures)
 
 pub trend-spec : {M : Type 1} → statement M
 trend-spec =

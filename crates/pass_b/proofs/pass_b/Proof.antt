@@ -35,7 +35,7 @@ module _ (f : tie.After-first-seasonal) where
   w-back = front-kept (n - 12) (s .args .w .now) (omega (arith, s .pre .1)) (f .first-seasonal .last .1 .1 .1 .1 .1 .1 .0) (omega arith) ∙ s .pre .1 .w-long
 
 -- t holds T2 after the trend
-is-t2 : (p : tie.After-trend) → let s = p .before .before .before .before .before .before .before .before .before .before .before .before .before .before .before .before .before in p .trend .last .1 .1 .1 .0 ≡ T2 (choicesB4 (s .args .start) (s .args .x .now)) (s .args .x .now)
+is-t2 : (p : tie.After-trend) → let s = p .before .before .before .before .before .before .before .before .before .before .before .before .before .before .before .before .before in p .trend .last .1 .1 .1 .1 .0 ≡ T2 (choicesB4 (s .args .start) (s .args .x .now)) (s .args .x .now)
 is-t2 p = let f = p .before .before .before .before .before .before .before .before .before .before in let h = f .before .before .before .before .before .before .before .pre .0 in stages.to-t2 (sound4 h) (series h) (f .first-seasonal .ensures) (p .trend .ensures)
 
 sub-e : tie.Need-sub-e

@@ -1,7 +1,7 @@
 // METHOD 2.5 and 2.6: Henderson's 13 terms over 16,796, between Musgrave's six rows for the start and six for the end, in millionths.
 use super::Shape;
 
-pub const ROWS_HENDERSON: [i64; 169] = [
+pub const ROWS_HENDERSON_13: [i64; 169] = [
     // none before
     421119,
     353139,
@@ -186,7 +186,7 @@ pub const ROWS_HENDERSON: [i64; 169] = [
     0,
 ];
 
-pub const SHAPE_HENDERSON: Shape = Shape {
+pub const SHAPE_HENDERSON_13: Shape = Shape {
     side: 6,
     step: 1,
     width: 13,

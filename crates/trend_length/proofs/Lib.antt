@@ -1,0 +1,2 @@
+-- Laws of the choice of a length.
+pub mod Choosing
