@@ -73,10 +73,18 @@ fn three_by_five(x: &[i64], out: &mut [i64]) {
     filter::<4, 60>(&[9, 17, 17, 17], &x[n - 48..], 12, &mut out[n - 12..]);
 }
 
-const HENDERSON: [i64; 13] = [-325, -468, 0, 1100, 2475, 3600, 4032, 3600, 2475, 1100, 0, -468, -325];
+// The middle rows of Henderson's filters; Musgrave's rows in millionths, where 0, 1 and more values follow, with zeros before the shorter ones.
 
-/// Musgrave's rows in millionths, where 0 to 5 values follow; zeros stand before the shorter ones.
-const MUSGRAVE: [[i64; 12]; 6] = [
+const HENDERSON_9: [i64; 9] = [-99, -24, 288, 648, 805, 648, 288, -24, -99];
+const MUSGRAVE_9: [[i64; 8]; 4] = [
+    [0, 0, 0, -155536, -33835, 185356, 424292, 579723],
+    [0, 0, -49405, -10556, 125783, 281868, 354447, 297863],
+    [0, -22615, -209, 119687, 259329, 315465, 242438, 85905],
+    [-30823, -4255, 119804, 263608, 323907, 255042, 102671, -29954],
+];
+
+const HENDERSON_13: [i64; 13] = [-325, -468, 0, 1100, 2475, 3600, 4032, 3600, 2475, 1100, 0, -468, -325];
+const MUSGRAVE_13: [[i64; 12]; 6] = [
     [0, 0, 0, 0, 0, -91849, -58102, 12022, 119773, 243898, 353139, 421119],
     [0, 0, 0, 0, -42704, -38630, 1822, 79902, 174355, 253923, 292233, 279099],
     [0, 0, 0, -16033, -24868, 2674, 67844, 149387, 216046, 241446, 215403, 148101],
@@ -85,14 +93,56 @@ const MUSGRAVE: [[i64; 12]; 6] = [
     [-16430, -25768, 1272, 65939, 146980, 213136, 238034, 211488, 143684, 60995, -5321, -34009],
 ];
 
-/// Henderson's 13 terms, with Musgrave's ends.
-fn henderson(x: &[i64], out: &mut [i64]) {
+const HENDERSON_23: [i64; 23] = [
+    -4278, -10918, -15687, -14527, -4948, 13430, 38933, 68303, 97395, 121949, 138318, 144060,
+    138318, 121949, 97395, 68303, 38933, 13430, -4948, -14527, -15687, -10918, -4278,
+];
+const MUSGRAVE_23: [[i64; 22]; 11] = [
+    [0, 0, 0, 0, 0, 0, 0, 0, 0, 0, -76899, -63851, -48931, -28084, 1184, 39250, 84441, 133500, 182280, 226522, 262579, 288009],
+    [0, 0, 0, 0, 0, 0, 0, 0, 0, -45197, -41304, -35539, -23846, -3734, 25178, 61214, 101118, 140743, 175830, 202732, 219006, 223799],
+    [0, 0, 0, 0, 0, 0, 0, 0, -22931, -24858, -24915, -19043, -4751, 18340, 48555, 82638, 116443, 145709, 166791, 177247, 176216, 164559],
+    [0, 0, 0, 0, 0, 0, 0, -8614, -13965, -17445, -14996, -4128, 15539, 42331, 72990, 103372, 129214, 146872, 153904, 149450, 134370, 111106],
+    [0, 0, 0, 0, 0, 0, -654, -7761, -12996, -12303, -3190, 14721, 39758, 68662, 97287, 121374, 137277, 142553, 136344, 119509, 94489, 64930],
+    [0, 0, 0, 0, 0, 2580, -5189, -11087, -11056, -2605, 14644, 39018, 67260, 95223, 118648, 133888, 138501, 131631, 114133, 88451, 58230, 27730],
+    [0, 0, 0, 0, 2677, -5110, -11026, -11014, -2582, 14648, 39004, 67227, 95171, 118578, 133799, 138394, 131504, 113988, 88287, 58047, 27529, 879],
+    [0, 0, 0, 1081, -6420, -12050, -11751, -3033, 14484, 39126, 67635, 95866, 119559, 135067, 139948, 133345, 116115, 90700, 60747, 30516, 4152, -15087],
+    [0, 0, -1026, -8171, -13445, -12790, -3715, 14158, 39156, 68021, 96609, 120657, 136521, 141759, 135512, 118638, 93579, 63982, 34107, 8099, -10783, -20868],
+    [0, -2820, -9678, -14665, -13724, -4363, 13797, 39082, 68234, 97108, 121443, 137594, 143119, 137158, 120571, 95799, 66489, 36900, 11179, -7417, -17214, -18592],
+    [-3900, -10594, -15417, -14313, -4788, 13536, 38984, 68300, 97337, 121836, 138151, 143840, 138042, 121618, 97010, 67863, 38438, 12881, -5552, -15186, -16400, -11686],
+];
+
+/// The middle row of N terms over D, and for each end the H rows of up to M terms: M is N - 1, H half of it.
+fn with_ends<const N: usize, const D: i64, const M: usize, const H: usize>(row: &[i64; N], ends: &[[i64; M]; H], x: &[i64], out: &mut [i64]) {
     let n = x.len();
-    filter::<13, 16796>(&HENDERSON, x, 1, &mut out[6..n - 6]);
-    for (k, row) in MUSGRAVE.iter().enumerate() {
-        let (first, last) = (&x[..12], &x[n - 12..]);
-        out[k] = nearest::<1_000_000>((0..12).map(|i| row[i] * first[11 - i]).sum());
-        out[n - 1 - k] = nearest::<1_000_000>((0..12).map(|i| row[i] * last[i]).sum());
+    filter::<N, D>(row, x, 1, &mut out[H..n - H]);
+    let (first, last) = (&x[..M], &x[n - M..]);
+    for (k, row) in ends.iter().enumerate() {
+        out[k] = nearest::<1_000_000>((0..M).map(|i| row[i] * first[M - 1 - i]).sum());
+        out[n - 1 - k] = nearest::<1_000_000>((0..M).map(|i| row[i] * last[i]).sum());
+    }
+}
+
+/// Henderson's 9, 13 or 23 terms, with Musgrave's ends.
+fn henderson(terms: usize, x: &[i64], out: &mut [i64]) {
+    match terms {
+        9 => with_ends::<9, 2431, 8, 4>(&HENDERSON_9, &MUSGRAVE_9, x, out),
+        13 => with_ends::<13, 16796, 12, 6>(&HENDERSON_13, &MUSGRAVE_13, x, out),
+        _ => with_ends::<23, 1_000_000, 22, 11>(&HENDERSON_23, &MUSGRAVE_23, x, out),
+    }
+}
+
+/// The sum of the sizes of the changes from month to month, but for the six months at each end.
+pub fn changes(x: &[i64]) -> i64 {
+    x[6..x.len() - 6].windows(2).map(|pair| (pair[1] - pair[0]).abs()).sum()
+}
+
+/// The terms of the final trend's filter, by the changes of C13 and of C7.
+pub fn terms(i: i64, c: i64) -> usize {
+    match (i, c) {
+        (0, 0) => 13,
+        _ if i < c => 9,
+        _ if 2 * i < 7 * c => 13,
+        _ => 23,
     }
 }
 
@@ -241,7 +291,7 @@ fn pass(x: &[i64], [si, r, m, t, s]: [&mut [i64]; 5], mut extremes: Option<(u8, 
     s.copy_within(12..18, 0);
     s.copy_within(n - 18..n - 12, n - 6);
     minus(x, s, r);
-    henderson(r, t);
+    henderson(13, r, t);
     minus(x, t, si);
     seasonal(three_by_five, si, r, m, s);
     if let Some((start, weights)) = extremes {
@@ -269,30 +319,38 @@ fn revise(figures: &[i32], start: u8, x: &mut [i64], [r, t, s]: [&mut [i64]; 3],
 
 /// The three passes.
 pub fn decompose(figures: &[i32], start: u8, lent: &mut Lent) -> Answer {
+    decompose_telling(figures, start, lent).0
+}
+
+/// The three passes; the answer and the sums I and C that choose the final trend's filter, both 0 after a refusal.
+pub fn decompose_telling(figures: &[i32], start: u8, lent: &mut Lent) -> (Answer, [i64; 2]) {
     let Lent { d10, d11, d12, d13, b17, c17, scratch } = lent;
     let lengths = [d10.len(), d11.len(), d12.len(), d13.len(), b17.len(), c17.len()];
     let answer = check(figures, start, lengths, scratch.len());
     if answer.0 != 0 {
-        return answer;
+        return (answer, [0; 2]);
     }
     let n = figures.len();
     let (x, si) = scratch[..2 * n].split_at_mut(n);
     for (x, &figure) in x.iter_mut().zip(figures) {
         *x = UNIT * figure as i64;
     }
-    let done = pass(x, [si, d11, d13, d12, d10], Some((start, b17)))
+    let mut told = ((6, 0), [0; 2]);
+    if pass(x, [si, d11, d13, d12, d10], Some((start, b17)))
         && revise(figures, start, x, [d11, d12, d10], b17)
         && pass(x, [si, d11, d13, d12, d10], None)
         && revise(figures, start, x, [d11, d12, d10], c17)
-        && pass(x, [si, d11, d13, d12, d10], None);
-    if done {
+    {
+        let (i, c) = (changes(d11), changes(d12));
+        pass(x, [si, d11, d13, d12, d10], None);
         minus(x, d10, d11);
-        henderson(d11, d12);
+        henderson(terms(i, c), d11, d12);
         for (((d11, d13), &figure), (d10, d12)) in d11.iter_mut().zip(d13).zip(figures).zip(d10.iter().zip(&*d12)) {
             *d11 = UNIT * figure as i64 - d10;
             *d13 = *d11 - d12;
         }
+        told = ((0, 0), [i, c]);
     }
     scratch[..8 * n].fill(0);
-    if done { (0, 0) } else { (6, 0) }
+    told
 }

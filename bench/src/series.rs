@@ -60,6 +60,20 @@ pub fn ordinary(seed: u64, n: usize, level: i64, spread: i64) -> Series {
     Series { start, figures: within_limits(figures) }
 }
 
+/// Waves of up to a height, 30 to 120 months long, with a seasonal that stays, and noise. Little noise gives a smooth series, much a rough one.
+pub fn waves(seed: u64, n: usize, height: i64, spread: i64) -> Series {
+    let mut dice = Dice::new(seed);
+    let start = dice.between(1, 12) as u8;
+    let seasonal: Vec<i64> = (0..12).map(|_| dice.between(-height, height)).collect();
+    let (half, first) = (dice.between(15, 60), dice.between(0, 119));
+    let figures = (0..n).map(|t| {
+        let (halves, place) = ((first + t as i64) / half, (first + t as i64) % half);
+        let arc = 4 * height * place * (half - place) / (half * half);
+        (if halves % 2 == 0 { arc } else { -arc }) + seasonal[t % 12] + dice.noise(spread)
+    });
+    Series { start, figures: within_limits(figures) }
+}
+
 /// Any figures up to a size.
 pub fn random(seed: u64, n: usize, size: i64) -> Series {
     let mut dice = Dice::new(seed);

@@ -1,6 +1,6 @@
 //! The plain program gives what ours gives, to the last entry of every lent slice.
 
-use bench::series::{at_the_limits, flat, flooded, odd, ordinary, raised_ends, random, rough_months, up_and_down, Dice, Series};
+use bench::series::{at_the_limits, flat, flooded, odd, ordinary, raised_ends, random, rough_months, up_and_down, waves, Dice, Series};
 use bench::{ours, plain, Answer, Lent};
 
 /// Entries that no program leaves behind by chance.
@@ -117,7 +117,56 @@ fn runs_with_few_values_of_full_weight() {
     }
 }
 
-// The next three meet exact halves of a grain (METHOD 1.3) in every rounding that can have them: of both signs, with odd and with even whole parts.
+/// The sums I and C of a series (METHOD 4.5).
+fn sums(series: &Series) -> [i64; 2] {
+    plain::decompose_telling(&series.figures, series.start, &mut marked(series.figures.len(), 0)).1
+}
+
+#[test]
+fn final_trends_of_9_13_and_23_terms() {
+    let mut counts = [(9, 0), (13, 0), (23, 0)];
+    for n in (72..=97).chain([114, 121, 240, 355, 588, 589, 599, 600]) {
+        for start in 1..=12 {
+            let seed = 100 * n as u64 + start as u64;
+            let height = [50, 2_000, 60_000][seed as usize % 3];
+            // The same throughout; a smooth one with an extreme; from smooth to rough.
+            let mut extreme = waves(seed, n, height, height / 50);
+            extreme.figures[Dice::new(seed).between(0, n as i64 - 1) as usize] += height as i32 / 2;
+            let wavy = [500, 40, 15, 6, 3, 1].map(|part| waves(seed, n, height, height / part));
+            for (k, mut series) in [flat(seed, n, height as i32, 0), extreme].into_iter().chain(wavy).enumerate() {
+                series.start = start;
+                agree(&format!("{n} months from {start}, wavy {k}"), &series);
+                let [i, c] = sums(&series);
+                counts.iter_mut().filter(|count| count.0 == plain::terms(i, c)).for_each(|count| count.1 += 1);
+            }
+        }
+    }
+    assert!(counts.iter().all(|count| count.1 >= 500), "{counts:?}");
+}
+
+/// I is C, then one grain less; 2I is 7C, then one grain less. The seeds were searched for.
+#[test]
+fn final_trends_where_the_terms_change() {
+    for (seed, spread, times, less, terms) in
+        [(48_817, 4, [1, 1], 0, 13), (229_987, 4, [1, 1], 1, 9), (436_308, 8, [2, 7], 0, 23), (544_925, 8, [2, 7], 1, 13)]
+    {
+        let series = waves(seed, 72, 50, spread);
+        agree(&format!("waves {seed}"), &series);
+        let [i, c] = sums(&series);
+        assert_eq!((times[1] * c - times[0] * i, plain::terms(i, c)), (less, terms), "waves {seed}");
+    }
+}
+
+/// The pencil cases of the sums and of the terms (METHOD 11).
+#[test]
+fn changes_and_terms() {
+    let squares: Vec<i64> = (0..16).map(|t| if t % 2 == 0 { -t * t } else { t * t }).collect();
+    assert_eq!([14, 15, 16].map(|n| plain::changes(&squares[..n])), [85, 198, 343]);
+    let sums = [(0, 0), (0, 1), (99, 100), (100, 100), (349, 100), (350, 100), (1, 0)];
+    assert_eq!(sums.map(|(i, c)| plain::terms(i, c)), [13, 9, 9, 13, 13, 23, 23]);
+}
+
+// The next four meet exact halves of a grain (METHOD 1.3) in every rounding that can have them: of both signs, with odd and with even whole parts.
 
 #[test]
 fn halves_of_small_odd_figures() {
@@ -145,6 +194,23 @@ fn halves_of_means() {
     for seed in 0..500 {
         let n = dice.between(72, if seed % 2 == 0 { 600 } else { 130 }) as usize;
         agree(&format!("rough months {seed}, {n} months"), &rough_months(seed, n));
+    }
+}
+
+/// D12 of each series has an exact half, at the start, in the middle or at the end; of 9 terms not in the middle, where the divisor is odd.
+/// The seeds were searched for, four for each place.
+#[test]
+fn halves_of_final_trends() {
+    for (spread, terms, seeds) in [
+        (4, 9, &[329_110, 260_225, 663_792, 564_858, 1_202_621, 579_808, 25_615, 476_104][..]),
+        (2_000, 23, &[115_318, 30_585, 90_427, 71_774, 289, 12_007, 117_402, 296_196, 605_422, 119_029, 766_497, 277_241]),
+    ] {
+        for &seed in seeds {
+            let series = waves(seed, 72, 2_000, spread);
+            agree(&format!("waves {seed}"), &series);
+            let [i, c] = sums(&series);
+            assert_eq!(plain::terms(i, c), terms, "waves {seed}");
+        }
     }
 }
 

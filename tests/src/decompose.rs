@@ -2,6 +2,7 @@
 
 use crate::calendar::labels;
 use crate::extremes::Extremes;
+use crate::noise::Noise;
 use crate::pass::{henderson, pass, pass_b, PassB, Steps};
 use crate::spread::{correction, weights};
 use std::fmt;
@@ -108,6 +109,10 @@ pub struct Tables {
     pub d1: Vec<i64>,
     pub d: Steps,
     pub d10: Vec<i64>,
+    /// The sums of pass C that choose the length of the final trend, and the
+    /// terms they choose.
+    pub noise: Noise,
+    pub trend_terms: usize,
     pub d11: Vec<i64>,
     pub d12: Vec<i64>,
     pub d13: Vec<i64>,
@@ -158,7 +163,9 @@ fn work(figures: &[i32], start: u8) -> Result<Tables, Refusal> {
     let d = pass(&d1);
     let d10 = d.s2.values.clone();
     let d11 = less(&b1, &d10);
-    let d12_exact = henderson(&less(&d1, &d10));
+    let noise = Noise::of(&c13, &c7);
+    let trend_terms = noise.terms();
+    let d12_exact = henderson(&less(&d1, &d10), trend_terms);
     let d12_halves = d12_exact.halves();
     let d12 = d12_exact.rounded().values;
     let d13 = less(&d11, &d12);
@@ -183,6 +190,8 @@ fn work(figures: &[i32], start: u8) -> Result<Tables, Refusal> {
         d1,
         d,
         d10,
+        noise,
+        trend_terms,
         d11,
         d12,
         d13,

@@ -4,7 +4,7 @@
 
 use crate::calendar::{labels, run};
 use crate::fraction::Fraction;
-use crate::rows::{henderson_at, three_by_five, three_by_three};
+use crate::rows::{henderson_at, three_by_five, three_by_three, T2_TERMS};
 use std::cmp::Ordering;
 use std::collections::BTreeMap;
 
@@ -67,11 +67,11 @@ fn over_runs(table: &ByMonth, row: fn(usize, usize) -> Vec<i128>, reach: usize, 
     out
 }
 
-fn henderson(table: &ByMonth) -> ByMonth {
+fn henderson(table: &ByMonth, terms: usize) -> ByMonth {
     let n = table.len();
     let mut out = ByMonth::new();
     for t in 0..n {
-        let row = henderson_at(t, n);
+        let row = henderson_at(terms, t, n);
         let terms: Vec<(i128, &Fraction)> =
             row.weights.iter().enumerate().map(|(index, &weight)| (weight, &table[&(row.first + index)])).collect();
         out.insert(t, Fraction::weighted_sum(&terms, row.divisor));
@@ -120,7 +120,7 @@ pub fn exact_pass(series: &[i64]) -> ExactPass {
     assert_eq!(s1.len(), n);
 
     let a1 = difference(&x, &s1);
-    let t2 = henderson(&a1);
+    let t2 = henderson(&a1, T2_TERMS);
     let si2 = difference(&x, &t2);
     let r2 = over_runs(&si2, three_by_five, 3, 60);
 
@@ -147,12 +147,13 @@ pub struct ExactTables {
     pub e13: Vec<Fraction>,
 }
 
-/// The exact working of the original series B1 and the corrected series D1.
-pub fn exact_working(b1: &[i64], d1: &[i64]) -> ExactTables {
+/// The exact working of the original series B1 and the corrected series D1,
+/// the final trend having so many terms.
+pub fn exact_working(b1: &[i64], d1: &[i64], terms: usize) -> ExactTables {
     assert_eq!(b1.len(), d1.len());
     let e10: ByMonth = exact_pass(d1).s2.into_iter().enumerate().collect();
     let e11 = difference(&from_grains(b1), &e10);
-    let e12 = henderson(&difference(&from_grains(d1), &e10));
+    let e12 = henderson(&difference(&from_grains(d1), &e10), terms);
     let e13 = difference(&e11, &e12);
     ExactTables { e10: listed(e10), e11: listed(e11), e12: listed(e12), e13: listed(e13) }
 }
@@ -202,8 +203,13 @@ impl FourDistances {
         }
     }
 
-    /// 10 grains for seasonal and adjusted, 14 for trend, 24 for irregular.
+    /// The four distances with their limits: 10 grains for seasonal and
+    /// adjusted, 15 for trend, 25 for irregular.
+    pub fn with_limits(&self) -> [(&'static str, &Distance, i128); 4] {
+        [("D10", &self.d10, 10), ("D11", &self.d11, 10), ("D12", &self.d12, 15), ("D13", &self.d13, 25)]
+    }
+
     pub fn are_within_limits(&self) -> bool {
-        self.d10.is_within(10) && self.d11.is_within(10) && self.d12.is_within(14) && self.d13.is_within(24)
+        self.with_limits().into_iter().all(|(_, distance, limit)| distance.is_within(limit))
     }
 }

@@ -6,7 +6,7 @@
 //! number, which only grows from step to step.
 
 use crate::calendar::{labels, run};
-use crate::rows::{henderson_at, three_by_five, three_by_three, HENDERSON_DIVISOR, MILLION};
+use crate::rows::{henderson_at, henderson_rows, three_by_five, three_by_three, MILLION, T2_TERMS};
 use crate::whole::Whole;
 use std::cmp::Ordering;
 use std::collections::BTreeMap;
@@ -76,9 +76,9 @@ impl OverOne {
     fn henderson(&self) -> OverOne {
         let n = self.uppers.len();
         // One divisor for the rows of the middle and of the ends.
-        let divisor = HENDERSON_DIVISOR * MILLION;
+        let divisor = henderson_rows(T2_TERMS).divisor * MILLION;
         self.filtered(0, n - 1, divisor, |t| {
-            let row = henderson_at(t, n);
+            let row = henderson_at(T2_TERMS, t, n);
             let scale = divisor / row.divisor;
             row.weights.iter().enumerate().map(|(index, weight)| (row.first + index, weight * scale)).collect()
         })

@@ -2,8 +2,10 @@
 
 use crate::decompose::Tables;
 use crate::fraction::Fraction;
+use crate::noise::Noise;
 use crate::pass::henderson;
 use crate::rounding::is_half;
+use crate::rows::T2_TERMS;
 
 /// A small generator of numbers with a fixed seed (xorshift, then a multiply).
 pub struct Dice {
@@ -88,6 +90,11 @@ fn random_figures(name: &str, seed: u64, n: usize, high: i64) -> Case {
     case(format!("{name}_seed{seed}_n{n}_s{start}"), start, figures)
 }
 
+/// 72 to 120 months and a start month, by a seed.
+fn short_size(seed: u64) -> (usize, u8) {
+    (72 + (seed % 49) as usize, (seed % 12 + 1) as u8)
+}
+
 /// 72 months of small random values, used for ties: their sums meet halves
 /// of a grain often.
 pub fn small_random(seed: u64) -> Case {
@@ -97,40 +104,79 @@ pub fn small_random(seed: u64) -> Case {
 /// 72 to 120 months of values so small that corrections and means often fall
 /// on halves too.
 pub fn smaller_random(seed: u64) -> Case {
-    random_figures("ties", seed, 72 + (seed % 49) as usize, 3)
+    random_figures("ties", seed, short_size(seed).0, 3)
 }
 
 /// Seeds of `small_random` for which some Henderson sum at the ends falls
 /// exactly on a half grain; they were found by trying one seed after the
-/// other (`separate hunt`).  Four each for T2 of pass B, of C, of D and for
-/// D12: above zero with an even and with an odd grain below, then below zero.
-pub const SEEDS_WITH_HALVES_AT_THE_ENDS: [u64; 16] = [
-    219_808, 309_025, 54_604, 48_581, 94_819, 273_572, 94_672, 167_550, 50_420, 74_605, 68_050, 816_246, 265_602,
-    188_267, 127_287, 102_169,
+/// other (`separate hunt`).  Four each for T2 of pass B, of C and of D: above
+/// zero with an even and with an odd grain below, then below zero.
+pub const SEEDS_WITH_HALVES_AT_THE_ENDS: [u64; 12] = [
+    219_808, 309_025, 54_604, 48_581, 94_819, 273_572, 94_672, 167_550, 50_420, 74_605, 68_050, 816_246,
 ];
 
 /// The same for the thirteen-term Henderson sums, in no order of kinds.
 pub const SEEDS_WITH_HALVES_IN_THE_MIDDLE: [u64; 14] =
-    [64, 269, 355, 388, 411, 443, 524, 577, 8_184, 14_178, 17_026, 22_869, 29_054, 30_338];
+    [64, 185, 355, 388, 411, 443, 524, 633, 8_184, 14_178, 17_026, 22_869, 29_054, 30_338];
 
 /// Seeds of `smaller_random` that meet sixty halves and more in all, and one
 /// in the thirteen-term Henderson sums: tables and kinds as at the ends.
-pub const SEEDS_WITH_MANY_HALVES: [u64; 16] = [
-    4_963, 38_766, 41_422, 29_205, 47_607, 46_540, 26_474, 32_077, 7_736, 29_568, 24_191, 47_069, 11_384, 44_641, 23_777,
-    29_814,
+pub const SEEDS_WITH_MANY_HALVES: [u64; 12] =
+    [4_963, 38_766, 41_422, 29_205, 47_607, 46_540, 26_474, 32_077, 7_736, 29_568, 24_191, 47_069];
+
+/// How a series is made from a seed.
+type Made = fn(u64) -> Case;
+
+/// Seeds for which some sum of the final trend falls on a half: by the terms,
+/// for the middle or the ends, and with the kind of the half from 0 to 3, in
+/// the order of the kinds above.  The middle row of 9 terms meets none: its
+/// divisor is odd.
+const HALVES_OF_THE_FINAL_TREND: [(&str, bool, Made, [(u64, usize); 2]); 5] = [
+    ("D D12-9", false, wandering, [(65_646, 0), (36_338, 2)]),
+    ("D D12-13", true, wandering, [(2_584, 0), (735, 1)]),
+    ("D D12-13", false, wandering, [(66_602, 3), (107_604, 1)]),
+    ("D D12-23", true, smaller_random, [(119_506, 0), (32_845, 1)]),
+    ("D D12-23", false, smaller_random, [(259_338, 0), (221_412, 1)]),
 ];
 
-/// The Henderson sums of a working that fall on a half: table, month and sum.
+/// The same series with every sign turned.
+fn turned_over(series: &Case) -> Case {
+    let figures = series.figures.iter().map(|figure| -figure).collect();
+    Case { name: format!("turned_over_{}", series.name), start: series.start, figures }
+}
+
+/// Series with halves of every kind in the final trend: the table, whether
+/// in the middle, the kind and the series.  With every sign turned all tables
+/// are, and the kind k is 3 - k.
+pub fn halves_of_the_final_trend() -> Vec<(&'static str, bool, usize, Case)> {
+    let mut list = Vec::new();
+    for (table, in_the_middle, made, seeds) in HALVES_OF_THE_FINAL_TREND {
+        for (seed, kind) in seeds {
+            let series = made(seed);
+            list.push((table, in_the_middle, 3 - kind, turned_over(&series)));
+            list.push((table, in_the_middle, kind, series));
+        }
+    }
+    list
+}
+
+/// The Henderson sums of a working that fall on a half: table, month and
+/// sum.  The name of D12 has the terms with it.
 pub fn henderson_halves(tables: &Tables) -> Vec<(&'static str, usize, Fraction)> {
     let adjusted = tables.d1.iter().zip(&tables.d10).map(|(d1, d10)| d1 - d10).collect();
+    let trend = match tables.trend_terms {
+        9 => "D D12-9",
+        13 => "D D12-13",
+        _ => "D D12-23",
+    };
     let mut list = Vec::new();
-    for (name, series) in [
-        ("B T2", &tables.b.a1.values),
-        ("C T2", &tables.c.a1.values),
-        ("D T2", &tables.d.a1.values),
-        ("D D12", &adjusted),
+    for (name, series, terms) in [
+        ("B T2", &tables.b.a1.values, T2_TERMS),
+        ("C T2", &tables.c.a1.values, T2_TERMS),
+        ("D T2", &tables.d.a1.values, T2_TERMS),
+        (trend, &adjusted, tables.trend_terms),
     ] {
-        for (t, &(upper, lower)) in henderson(series).values.iter().enumerate() {
+        for (t, &(upper, lower)) in henderson(series, terms).values.iter().enumerate() {
             if is_half(upper, lower) {
                 list.push((name, t, Fraction::new(upper, lower)));
             }
@@ -150,6 +196,209 @@ pub fn ties() -> Vec<Case> {
         list.push(case(format!("ties_line_{slope}_n{n}_s{start}"), start, line));
     }
     list.extend(SEEDS_WITH_MANY_HALVES.into_iter().map(smaller_random));
+    list
+}
+
+/// 72 to 120 months that rise and fall in straight pieces, with noise upon
+/// them, in many proportions: their sums of changes lie on both sides of the
+/// bounds of the trend's length, and are small enough to meet them.
+pub fn wandering(seed: u64) -> Case {
+    let mut dice = Dice::new(seed);
+    let (n, start) = short_size(seed);
+    let (steep, noise) = (dice.between(1, 4), dice.between(0, 5));
+    let (mut level, mut slope) = (0, 0);
+    let mut figures = Vec::new();
+    for _ in 0..n {
+        if dice.between(0, 7) == 0 {
+            slope = dice.between(-steep, steep);
+        }
+        level += slope;
+        figures.push(level + dice.between(-noise, noise));
+    }
+    case(format!("wandering_seed{seed}_n{n}_s{start}"), start, figures)
+}
+
+/// 72 to 120 months of one figure, then of another, with a few straight ways
+/// between them: trends with small sums.
+pub fn stairs(seed: u64) -> Case {
+    let mut dice = Dice::new(seed);
+    let (n, start) = short_size(seed);
+    let mut figures = vec![0; n];
+    for _ in 0..dice.between(1, 3) {
+        let (place, steps) = (dice.between(0, n as i64 - 1), dice.between(1, 9));
+        let height = 2 * dice.between(0, 1) - 1;
+        for (t, figure) in figures.iter_mut().enumerate() {
+            *figure += height * (t as i64 - place).clamp(0, steps);
+        }
+    }
+    case(format!("stairs_seed{seed}_n{n}_s{start}"), start, figures)
+}
+
+/// 72 to 120 months of one figure but for the first six, or the last six, or
+/// both: all changes that count are small.
+pub fn uneven_edges(seed: u64) -> Case {
+    let mut dice = Dice::new(seed);
+    let (n, start) = short_size(seed);
+    let mut figures = vec![dice.between(-3, 3); n];
+    let (edges, height) = (dice.between(1, 3), dice.between(1, 4));
+    for (t, figure) in figures.iter_mut().enumerate() {
+        if (edges != 2 && t < 6) || (edges != 1 && t > n - 7) {
+            *figure += dice.between(-height, height);
+        }
+    }
+    case(format!("uneven_edges_seed{seed}_n{n}_s{start}"), start, figures)
+}
+
+/// 72 months of nothing but for the first four, whose figures from -12 to 12
+/// are the digits of the seed.
+pub fn four_at_the_beginning(seed: u64) -> Case {
+    let start = (seed % 12 + 1) as u8;
+    let mut figures: Vec<i64> = (0..4).map(|place| (seed / 25u64.pow(place) % 25) as i64 - 12).collect();
+    figures.resize(72, 0);
+    case(format!("four_first_seed{seed}_n72_s{start}"), start, figures)
+}
+
+/// What a series tries of the choice of the trend's length: a bound that its
+/// sums meet or miss by one grain, a trend without changes, and months
+/// outside t 6 to n-7 that would choose another length.
+pub fn place_by_bounds(tables: &Tables) -> Vec<String> {
+    let Noise { i, c } = tables.noise;
+    let last = tables.b1.len() - 7;
+    let mut list = Vec::new();
+    for (name, above, below) in [("I", i, c), ("2I", 2 * i, 7 * c)] {
+        let bound = if name == "I" { "C" } else { "7C" };
+        for (what, met) in [("-1", above + 1 == below), ("", above == below && c > 0), ("+1", above == below + 1)] {
+            if met {
+                list.push(format!("{name}={bound}{what}"));
+            }
+        }
+    }
+    if c == 0 && i > 0 {
+        list.push("C=0".to_string());
+    }
+    for (what, first, last) in [("from5", 5, last), ("to-6", 6, last + 1), ("all", 0, last + 6)] {
+        let other = Noise::between(&tables.c13, &tables.c7, first, last).terms();
+        if other != tables.trend_terms {
+            list.push(format!("{what}:{}not{other}", tables.trend_terms));
+        }
+    }
+    list
+}
+
+/// Seeds found by trying one after the other (`separate bounds`), with what
+/// each series tries of the choice (`place_by_bounds`).
+const SEEDS_AT_THE_BOUNDS: [(&str, Made, &[u64]); 25] = [
+    ("I=C-1", four_at_the_beginning, &[287_988]),
+    ("I=C", four_at_the_beginning, &[289_265]),
+    ("I=C+1", four_at_the_beginning, &[291_567]),
+    ("2I=7C-1", four_at_the_beginning, &[266_518]),
+    ("2I=7C", four_at_the_beginning, &[272_500]),
+    ("2I=7C+1", four_at_the_beginning, &[227_567]),
+    ("I=C-1", uneven_edges, &[24_992]),
+    ("I=C-1", stairs, &[136_729, 164_803]),
+    ("I=C-1", wandering, &[74_952, 328_693]),
+    ("I=C", uneven_edges, &[12_673, 53_507]),
+    ("I=C", stairs, &[61_400, 91_283, 98_762, 121_796]),
+    ("I=C+1", uneven_edges, &[38_480]),
+    ("I=C+1", stairs, &[93, 10_062]),
+    ("I=C+1", wandering, &[268_592]),
+    ("2I=7C-1", uneven_edges, &[1_622, 4_100, 6_092]),
+    ("2I=7C", uneven_edges, &[1_309, 1_837, 3_104, 5_093, 13_408]),
+    ("2I=7C+1", uneven_edges, &[975, 2_816, 4_264]),
+    ("from5:9not13", wandering, &[364, 416]),
+    ("from5:13not9", wandering, &[1_689, 2_507]),
+    ("from5:13not23", wandering, &[714, 1_466]),
+    ("from5:23not13", wandering, &[590, 1_734]),
+    ("to-6:9not13", wandering, &[49, 1_182]),
+    ("to-6:13not9", wandering, &[407, 1_284]),
+    ("to-6:13not23", wandering, &[1_831, 2_568]),
+    ("to-6:23not13", wandering, &[385, 978]),
+];
+
+/// Four figures, at the beginning or the end of a series that is even
+/// otherwise, that leave C7 without a change in the months that count, and
+/// C13 not.  Of all `four_at_the_beginning` only these and the same with
+/// turned signs do (seeds 153,240 and 237,384).
+const UNSEEN_BY_THE_TREND: [i64; 4] = [3, -8, 8, -3];
+
+/// Series with a C of zero and an I above zero: beginning, end or both.
+fn trends_without_changes() -> Vec<Case> {
+    let mut list = Vec::new();
+    for (n, start, level) in [(72, 1, 0), (75, 4, 50), (114, 10, LIMIT - 8), (600, 7, -LIMIT + 8)] {
+        for (name, first, last) in [("beginning", 1, 0), ("end", 0, -1), ("both", 1, 1)] {
+            let mut figures = vec![level; n];
+            for (place, figure) in UNSEEN_BY_THE_TREND.into_iter().enumerate() {
+                figures[place] += first * figure;
+                figures[n - 4 + place] += last * figure;
+            }
+            list.push(case(format!("unseen_at_{name}_n{n}_s{start}"), start, figures));
+        }
+    }
+    list
+}
+
+/// Series that try the choice of the trend's length, with what they try.
+pub fn series_at_the_bounds() -> Vec<(Case, &'static str)> {
+    let mut list: Vec<(Case, &str)> = trends_without_changes().into_iter().map(|case| (case, "C=0")).collect();
+    for (what, made, seeds) in SEEDS_AT_THE_BOUNDS {
+        list.extend(seeds.iter().map(|&seed| (made(seed), what)));
+    }
+    list
+}
+
+/// A slow wave of whole numbers: arcs of a parabola, now above zero and now
+/// below, each over so many months.
+fn wave(t: usize, arc: i64, height: i64) -> i64 {
+    let t = t as i64;
+    let place = t % arc;
+    let size = 4 * height * place * (arc - place) / (arc * arc);
+    if (t / arc) % 2 == 0 {
+        size
+    } else {
+        -size
+    }
+}
+
+/// A wave with the plain seasonal in so many thousandths, and noise.
+fn waving(start: u8, n: usize, arc: i64, height: i64, seasonal: i64, noise: i64) -> Vec<i64> {
+    let mut dice = Dice::new(80_000 + 1_000 * n as u64 + 10 * arc as u64 + u64::from(start));
+    let month = |t: usize| PLAIN_SEASONAL[calendar_month(start, t)] * seasonal / 1000;
+    (0..n).map(|t| wave(t, arc, height) + month(t) + dice.between(-noise, noise)).collect()
+}
+
+/// Series made for each length of the final trend, with the terms that they
+/// choose: smooth, ordinary and rough ones, and years that repeat (both sums
+/// zero).
+pub fn trend_lengths() -> Vec<(Case, usize)> {
+    let sizes = [(72, 1), (73, 12), (84, 10), (95, 7), (114, 10), (203, 3), (341, 8), (599, 6), (600, 11)];
+    let mut list = Vec::new();
+    for (index, (n, start)) in sizes.into_iter().enumerate() {
+        let arc = [16, 24, 40][index % 3];
+        let mut add = |name: &str, terms: usize, figures: Vec<i64>| {
+            list.push((case(format!("{name}_arc{arc}_n{n}_s{start}"), start, figures), terms));
+        };
+        // The highest wave reaches both limits, the next is cut off there.
+        add("smooth_to_the_limits", 9, waving(start, n, arc, LIMIT, 0, 0));
+        add("smooth_beyond_the_limits", 9, waving(start, n, arc, LIMIT, 1_000, 100));
+        add("smooth", 9, waving(start, n, arc, 30_000, 1_000, 300));
+        add("smooth_and_low", 9, waving(start, n, arc, 300, 20, 2));
+        for height in [900, 40_000, 140_000] {
+            let noise = 8 * height / arc;
+            add(&format!("ordinary_{height}"), 13, waving(start, n, arc, height, height / 50, noise));
+        }
+        add("rough", 23, waving(start, n, arc, 0, 500, 4_000));
+        add("rough_and_low", 23, waving(start, n, arc, 0, 1, 9));
+        add("rough_to_the_limits", 23, waving(start, n, arc, 0, 0, LIMIT));
+        add("years_repeated", 13, waving(start, n, arc, 0, 1_000, 0));
+    }
+    // Smooth ones for every short length and every start month.
+    for n in 72..=84 {
+        for start in (1..=12u8).filter(|start| (n + usize::from(*start)) % 3 == 0) {
+            let arc = 16 + (n as i64 + 5 * i64::from(start)) % 9;
+            let figures = waving(start, n, arc, 6_000 * i64::from(start), 1_500, 700);
+            list.push((case(format!("smooth_every_start_arc{arc}_n{n}_s{start}"), start, figures), 9));
+        }
+    }
     list
 }
 
@@ -351,6 +600,7 @@ pub fn cases() -> Vec<Case> {
     let seeds = SEEDS_WITH_HALVES_IN_THE_MIDDLE.into_iter().chain(SEEDS_WITH_HALVES_AT_THE_ENDS);
     list.extend(seeds.map(small_random));
     list.extend(ties());
+    list.extend(halves_of_the_final_trend().into_iter().map(|(_, _, _, case)| case));
 
     // Every start month with every short length, and the long lengths.
     for n in (72..=84).chain([114, 599, 600]) {
@@ -377,6 +627,10 @@ pub fn cases() -> Vec<Case> {
     list.extend(flooded_januaries().into_iter().map(|(case, _)| case));
     list.extend(months_far_off());
     list.extend(extremes_from_every_start());
+
+    // The length of the final trend.
+    list.extend(trend_lengths().into_iter().map(|(case, _)| case));
+    list.extend(series_at_the_bounds().into_iter().map(|(case, _)| case));
 
     list.push(Case { name: "book_n114_s10".to_string(), start: 10, figures: book_series() });
     list

@@ -1,6 +1,6 @@
 //! Additive X-11 seasonal adjustment of one monthly series, and the desk
 //! file, worked from document 01 ("Exact scope and rules for the additive
-//! X-11 desk") and requests 1/12 and 2/12 of document 02 alone.  It is meant
+//! X-11 desk") and requests 1/12 to 3/12 of document 02 alone.  It is meant
 //! to stand beside another program: the two are given the same series and
 //! their tables are compared.
 //!
@@ -18,6 +18,7 @@ pub mod exact_b;
 pub mod extremes;
 pub mod fraction;
 pub mod generators;
+pub mod noise;
 pub mod pass;
 pub mod print;
 pub mod rounding;

@@ -6,19 +6,23 @@
 use std::io::{self, Read, Write};
 use std::process::ExitCode;
 use separate::calendar::labels;
-use separate::decompose::{check_size_and_start, decompose_fitting, Refusal};
+use separate::decompose::{check_size_and_start, decompose_fitting, Refusal, Tables};
 use separate::desk::{bytes_of, write};
 use separate::exact::{distance, exact_pass, exact_working, FourDistances};
 use separate::exact_b::{exact_pass_b, DistanceB};
 use separate::extremes::Extremes;
-use separate::generators::{cases, grain_cases, henderson_halves, small_random, smaller_random};
+use separate::generators::{
+    cases, four_at_the_beginning, grain_cases, henderson_halves, place_by_bounds, small_random, smaller_random, stairs,
+    uneven_edges, wandering, Case,
+};
 use separate::pass::{pass, Steps};
 use separate::print::printed;
-use separate::rows::{henderson_centre, musgrave_exact, musgrave_millionths, three_by_five, three_by_three};
+use separate::rows::{henderson_by_formula, henderson_rows, musgrave_exact, three_by_five, three_by_three, LENGTHS};
 use separate::spread::weights;
 
 const USAGE: &str = "separate tables START      figures: t figure D10 D11 D12 D13 B17 C17
-separate steps START       figures: every table of the three passes, as `pass table t value`
+separate steps START       figures: every table of the three passes, as `pass table t value`, and the sums and
+                           length of the final trend, as `D sums I C` and `D length TERMS`
 separate steps             grains: every table of one pass, as `table t value`
 separate pass              grains: t X T2 S2
 separate weights START     irregular in grains: t weight
@@ -35,6 +39,7 @@ separate cases             all made-up series, one a line: name start figures
 separate case NAME         one of them, figures only
 separate graincases        all made-up series of grains, one a line: name grains
 separate hunt FROM TO      Henderson sums on a half in the series of these seeds: name pass table t sum
+separate bounds FROM TO    series of these seeds near the bounds of the trend's length: name what I C
 ";
 
 fn main() -> ExitCode {
@@ -91,10 +96,8 @@ fn run(words: &[&str]) -> Result<Vec<u8>, String> {
             }
             text
         }
-        ["hunt", from, to] => hunt(
-            from.parse().map_err(|_| "FROM is no number")?,
-            to.parse().map_err(|_| "TO is no number")?,
-        ),
+        ["hunt", from, to] => hunt(seed(from)?, seed(to)?),
+        ["bounds", from, to] => bounds(seed(from)?, seed(to)?),
         _ => return Err(USAGE.to_string()),
     };
     Ok(text.into_bytes())
@@ -128,6 +131,10 @@ fn figures() -> Result<Vec<i32>, String> {
 
 fn month(word: &str) -> Result<u8, String> {
     word.parse().map_err(|_| format!("no number from 0 to 255: {word}"))
+}
+
+fn seed(word: &str) -> Result<u64, String> {
+    word.parse().map_err(|_| format!("no seed: {word}"))
 }
 
 fn tables(figures: &[i32], start: u8) -> Result<String, Refusal> {
@@ -189,6 +196,8 @@ fn all_steps(figures: &[i32], start: u8) -> Result<String, Refusal> {
     text.push_str(&table_lines("C ", "C17", 0, &tables.c17));
     text.push_str(&table_lines("C ", "C20", 0, &tables.c20));
     text.push_str(&steps_lines("D ", &tables.d));
+    text.push_str(&format!("D sums {} {}\n", tables.noise.i, tables.noise.c));
+    text.push_str(&format!("D length {}\n", tables.trend_terms));
     text.push_str(&table_lines("D ", "D10", 0, &tables.d10));
     text.push_str(&table_lines("D ", "D11", 0, &tables.d11));
     text.push_str(&table_lines("D ", "D12", 0, &tables.d12));
@@ -225,7 +234,7 @@ fn print_weights(irregular: &[i64], start: u8) -> Result<String, Refusal> {
 
 fn print_exact(figures: &[i32], start: u8) -> Result<String, Refusal> {
     let tables = decompose_fitting(figures, start)?;
-    let exact = exact_working(&tables.b1, &tables.d1);
+    let exact = exact_working(&tables.b1, &tables.d1, tables.trend_terms);
     let mut text = String::new();
     for t in 0..figures.len() {
         text.push_str(&format!("{} {} {} {} {}\n", t, exact.e10[t], exact.e11[t], exact.e12[t], exact.e13[t]));
@@ -235,12 +244,10 @@ fn print_exact(figures: &[i32], start: u8) -> Result<String, Refusal> {
 
 fn print_distances(figures: &[i32], start: u8) -> Result<String, Refusal> {
     let tables = decompose_fitting(figures, start)?;
-    let exact = exact_working(&tables.b1, &tables.d1);
+    let exact = exact_working(&tables.b1, &tables.d1, tables.trend_terms);
     let four = FourDistances::measure(&tables.d10, &tables.d11, &tables.d12, &tables.d13, &exact);
     let mut text = String::new();
-    for (name, d, limit) in
-        [("D10", &four.d10, 10), ("D11", &four.d11, 10), ("D12", &four.d12, 14), ("D13", &four.d13, 24)]
-    {
+    for (name, d, limit) in four.with_limits() {
         let word = if d.is_within(limit) { "within" } else { "beyond" };
         text.push_str(&format!("{name} {} about {:.4} at {} {word} {limit}\n", d.greatest, d.greatest.roughly(), d.place));
     }
@@ -286,22 +293,42 @@ fn print_rows() -> String {
     for (before, after) in [(3, 3), (3, 2), (3, 1), (3, 0), (2, 3), (1, 3), (0, 3)] {
         text.push_str(&format!("3x5 {before} before {after} after: {} over 60\n", joined(&three_by_five(before, after))));
     }
-    text.push_str(&format!("Henderson: {} over 16796\n", joined(henderson_centre())));
-    for f in 0..=5 {
-        text.push_str(&format!("Henderson with {f} to follow: {} over 1000000\n", joined(musgrave_millionths(f))));
-        text.push_str(&format!("  exact: {}\n", joined(&musgrave_exact(f))));
+    for terms in LENGTHS {
+        let rows = henderson_rows(terms);
+        text.push_str(&format!("H{terms} middle: {} over {}\n", joined(&rows.middle), rows.divisor));
+        text.push_str(&format!("H{terms} middle exact: {}\n", joined(&henderson_by_formula(terms))));
+        for (f, row) in rows.ends.iter().enumerate() {
+            text.push_str(&format!("H{terms} {f} after: {} over 1000000\n", joined(row)));
+            text.push_str(&format!("H{terms} {f} after exact: {}\n", joined(&musgrave_exact(terms, f))));
+        }
     }
     text
 }
 
+/// The series of a seed that have allowed figures, with their tables.
+fn worked(list: Vec<Case>) -> Vec<(String, Tables)> {
+    list.into_iter().filter_map(|c| decompose_fitting(&c.figures, c.start).ok().map(|tables| (c.name, tables))).collect()
+}
+
 fn hunt(from: u64, to: u64) -> String {
     let mut text = String::new();
-    for case in (from..to).flat_map(|seed| [small_random(seed), smaller_random(seed)]) {
-        let Ok(tables) = decompose_fitting(&case.figures, case.start) else {
-            continue;
-        };
-        for (table, t, sum) in henderson_halves(&tables) {
-            text.push_str(&format!("{} {table} {t} {sum}\n", case.name));
+    for seed in from..to {
+        for (name, tables) in worked(vec![small_random(seed), smaller_random(seed), wandering(seed)]) {
+            for (table, t, sum) in henderson_halves(&tables) {
+                text.push_str(&format!("{name} {table} {t} {sum}\n"));
+            }
+        }
+    }
+    text
+}
+
+fn bounds(from: u64, to: u64) -> String {
+    let mut text = String::new();
+    for seed in from..to {
+        for (name, tables) in worked(vec![wandering(seed), stairs(seed), uneven_edges(seed), four_at_the_beginning(seed)]) {
+            for what in place_by_bounds(&tables) {
+                text.push_str(&format!("{name} {what} {} {}\n", tables.noise.i, tables.noise.c));
+            }
         }
     }
     text

@@ -5,7 +5,7 @@ use crate::calendar::{labels, run, Label};
 use crate::decompose::Refusal;
 use crate::extremes::Extremes;
 use crate::rounding::{is_half, nearest_even};
-use crate::rows::{henderson_at, three_by_five, three_by_three};
+use crate::rows::{henderson_at, three_by_five, three_by_three, T2_TERMS};
 
 /// A table of grains that begins at some month of the series.
 #[derive(Clone, Debug, PartialEq, Eq)]
@@ -116,12 +116,12 @@ pub fn seasonal_3x5(table: &Placed) -> Fractions {
     over_runs(table, three_by_five, 3, 60)
 }
 
-/// Henderson with its end rows, over all months of a series.
-pub fn henderson(series: &[i64]) -> Fractions {
+/// Henderson of so many terms with its end rows, over all months of a series.
+pub fn henderson(series: &[i64], terms: usize) -> Fractions {
     let n = series.len();
     let mut values = Vec::new();
     for t in 0..n {
-        let row = henderson_at(t, n);
+        let row = henderson_at(terms, t, n);
         let mut sum = 0i128;
         for (index, weight) in row.weights.iter().enumerate() {
             sum += weight * i128::from(series[row.first + index]);
@@ -234,7 +234,7 @@ fn second_trend(x: &Placed, known: &Placed) -> SecondTrend {
     }
     let s1 = Placed::whole_series(values);
     let a1 = x.less(&s1);
-    let exact = henderson(&a1.values);
+    let exact = henderson(&a1.values, T2_TERMS);
     let t2 = exact.rounded();
     let si2 = x.less(&t2);
     SecondTrend { s1, a1, t2, si2, halves: exact.halves() }

@@ -34,12 +34,42 @@ fn mirrored(mut row: Vec<i128>) -> Vec<i128> {
     row
 }
 
-/// The thirteen Henderson weights by the closed formula, with the factor
-/// n²-1 below, n being two more than the terms on one side.
-pub fn henderson_by_formula() -> Vec<Fraction> {
-    let n: i128 = 8;
+/// The lengths of the Henderson filter that the final trend can have.
+pub const LENGTHS: [usize; 3] = [9, 13, 23];
+
+/// The length for the second trend T2 of every pass.
+pub const T2_TERMS: usize = 13;
+
+/// The divisor of the end rows, and of the middle row of 23 terms.
+pub const MILLION: i128 = 1_000_000;
+
+/// Musgrave's ratio D, which the paper fixes as a fraction for each length.
+pub fn musgrave_ratio(terms: usize) -> Fraction {
+    match terms {
+        9 => Fraction::new(12_732, 10_000),
+        13 => Fraction::new(1_039, 10_000),
+        23 => Fraction::new(629, 10_000),
+        _ => panic!("no length of the Henderson filter"),
+    }
+}
+
+/// The divisor of the middle row.
+fn middle_divisor(terms: usize) -> i128 {
+    match terms {
+        9 => 2_431,
+        13 => 16_796,
+        23 => MILLION,
+        _ => panic!("no length of the Henderson filter"),
+    }
+}
+
+/// The Henderson weights by the closed formula, with the factor n²-1 below,
+/// n being two more than the terms on one side.
+pub fn henderson_by_formula(terms: usize) -> Vec<Fraction> {
+    let side = (terms / 2) as i128;
+    let n = side + 2;
     let mut weights = Vec::new();
-    for i in -6..=6i128 {
+    for i in -side..=side {
         let above = 315
             * ((n - 1) * (n - 1) - i * i)
             * (n * n - i * i)
@@ -51,32 +81,12 @@ pub fn henderson_by_formula() -> Vec<Fraction> {
     weights
 }
 
-/// The divisor of the Henderson weights.
-pub const HENDERSON_DIVISOR: i128 = 16_796;
-
-/// The thirteen Henderson weights as whole numbers over 16,796.
-pub fn henderson_centre() -> &'static [i128] {
-    static ROW: OnceLock<Vec<i128>> = OnceLock::new();
-    ROW.get_or_init(|| {
-        henderson_by_formula()
-            .iter()
-            .map(|weight| {
-                let scaled = weight.times(&Fraction::whole(HENDERSON_DIVISOR));
-                assert_eq!(scaled.lower(), &Whole::from(1), "the weight is no whole number over 16,796");
-                scaled.upper().to_i128().expect("a small number")
-            })
-            .collect()
-    })
-}
-
-/// The exact weights of Musgrave for the end of the series where f values
-/// follow the present month, oldest first.
-pub fn musgrave_exact(f: usize) -> Vec<Fraction> {
-    assert!(f <= 5, "the centre row serves here");
-    let whole: Vec<Fraction> = henderson_by_formula();
-    let many: i128 = 13;
-    let m: i128 = 7 + f as i128;
-    let d = Fraction::new(1039, 10000);
+/// Musgrave's weights for the end of the series where f values follow the
+/// present month, oldest first, from a whole row and a ratio D.
+pub fn musgrave(whole: &[Fraction], d: &Fraction, f: usize) -> Vec<Fraction> {
+    let many = whole.len() as i128;
+    let m = many / 2 + 1 + f as i128;
+    assert!(m < many, "the middle row serves here");
     let middle = Fraction::new(m + 1, 2);
 
     // The weights that fall away, plainly and by their distance from the middle.
@@ -88,45 +98,83 @@ pub fn musgrave_exact(f: usize) -> Vec<Fraction> {
         lost_moment = lost_moment.plus(&Fraction::whole(i).less(&middle).times(weight));
     }
 
-    let below = Fraction::whole(1).plus(&Fraction::new(m * (m - 1) * (m + 1), 12).times(&d));
+    let below = Fraction::whole(1).plus(&Fraction::new(m * (m - 1) * (m + 1), 12).times(d));
     let mut row = Vec::new();
     for j in 1..=m {
         let level = lost.over(&Fraction::whole(m));
-        let slope = Fraction::whole(j).less(&middle).times(&d).over(&below).times(&lost_moment);
+        let slope = Fraction::whole(j).less(&middle).times(d).over(&below).times(&lost_moment);
         row.push(whole[(j - 1) as usize].plus(&level).plus(&slope));
     }
     row
 }
 
-/// The divisor of the end rows.
-pub const MILLION: i128 = 1_000_000;
+/// The exact end weights of a length, from its exact weights.
+pub fn musgrave_exact(terms: usize, f: usize) -> Vec<Fraction> {
+    musgrave(&henderson_by_formula(terms), &musgrave_ratio(terms), f)
+}
 
-/// The end row in millionths: every weight but that of the present month
-/// (the seventh) is rounded, and the seventh makes up the million.
+/// A row in millionths: every weight but that of the present month is
+/// rounded, a half away from zero, and the present month's makes up the
+/// million.
+pub fn in_millionths(exact: &[Fraction], present: usize) -> Vec<i128> {
+    let mut row = Vec::new();
+    for weight in exact {
+        let millionths = weight.times(&Fraction::whole(MILLION));
+        row.push(millionths.nearest_away().to_i128().expect("a small number"));
+    }
+    row[present] = 0;
+    row[present] = MILLION - row.iter().sum::<i128>();
+    row
+}
+
+/// A row whose weights are whole numbers over the divisor.
+fn whole_over(exact: &[Fraction], divisor: i128) -> Vec<i128> {
+    let mut row = Vec::new();
+    for weight in exact {
+        let scaled = weight.times(&Fraction::whole(divisor));
+        assert_eq!(scaled.lower(), &Whole::from(1), "the weight is no whole number over {divisor}");
+        row.push(scaled.upper().to_i128().expect("a small number"));
+    }
+    row
+}
+
+/// All rows of one length of the Henderson filter.
+pub struct HendersonRows {
+    pub terms: usize,
+    /// The middle row, whole numbers over its divisor.
+    pub middle: Vec<i128>,
+    pub divisor: i128,
+    /// The end rows in millionths, by the number of values that follow.
+    pub ends: Vec<Vec<i128>>,
+}
+
+impl HendersonRows {
+    fn worked(terms: usize) -> HendersonRows {
+        // The present month's place in the middle row and in every end row.
+        let side = terms / 2;
+        let exact = henderson_by_formula(terms);
+        let divisor = middle_divisor(terms);
+        let middle = if divisor == MILLION { in_millionths(&exact, side) } else { whole_over(&exact, divisor) };
+        let ends = (0..side).map(|f| in_millionths(&musgrave_exact(terms, f), side)).collect();
+        HendersonRows { terms, middle, divisor, ends }
+    }
+}
+
+/// The rows of a length, worked out once.
+pub fn henderson_rows(terms: usize) -> &'static HendersonRows {
+    static ROWS: OnceLock<Vec<HendersonRows>> = OnceLock::new();
+    let all = ROWS.get_or_init(|| LENGTHS.into_iter().map(HendersonRows::worked).collect());
+    all.iter().find(|rows| rows.terms == terms).expect("a length of the Henderson filter")
+}
+
+/// The middle row of 13 terms.
+pub fn henderson_centre() -> &'static [i128] {
+    &henderson_rows(T2_TERMS).middle
+}
+
+/// The end row of 13 terms where f values follow.
 pub fn musgrave_millionths(f: usize) -> &'static [i128] {
-    static ROWS: OnceLock<Vec<Vec<i128>>> = OnceLock::new();
-    let rows = ROWS.get_or_init(|| {
-        (0..=5)
-            .map(|f| {
-                let mut row: Vec<i128> = musgrave_exact(f)
-                    .iter()
-                    .map(|weight| {
-                        let millionths = weight.times(&Fraction::whole(MILLION));
-                        millionths.nearest_away().to_i128().expect("a small number")
-                    })
-                    .collect();
-                let mut others = 0;
-                for (index, weight) in row.iter().enumerate() {
-                    if index != 6 {
-                        others += weight;
-                    }
-                }
-                row[6] = MILLION - others;
-                row
-            })
-            .collect()
-    });
-    &rows[f]
+    &henderson_rows(T2_TERMS).ends[f]
 }
 
 /// A Henderson row ready for use at one month of a series.
@@ -137,17 +185,19 @@ pub struct HendersonRow {
     pub divisor: i128,
 }
 
-/// The Henderson row for month t of n months.
-pub fn henderson_at(t: usize, n: usize) -> HendersonRow {
-    assert!(t < n && n >= 13);
+/// The Henderson row of a length for month t of n months.
+pub fn henderson_at(terms: usize, t: usize, n: usize) -> HendersonRow {
+    assert!(t < n && n >= terms);
+    let rows = henderson_rows(terms);
+    let side = terms / 2;
     let before = t;
     let after = n - 1 - t;
-    if before >= 6 && after >= 6 {
-        HendersonRow { first: t - 6, weights: henderson_centre().to_vec(), divisor: HENDERSON_DIVISOR }
-    } else if after < 6 {
-        HendersonRow { first: t - 6, weights: musgrave_millionths(after).to_vec(), divisor: MILLION }
+    if before >= side && after >= side {
+        HendersonRow { first: t - side, weights: rows.middle.clone(), divisor: rows.divisor }
+    } else if after < side {
+        HendersonRow { first: t - side, weights: rows.ends[after].clone(), divisor: MILLION }
     } else {
-        HendersonRow { first: 0, weights: mirrored(musgrave_millionths(before).to_vec()), divisor: MILLION }
+        HendersonRow { first: 0, weights: mirrored(rows.ends[before].clone()), divisor: MILLION }
     }
 }
 
@@ -161,17 +211,26 @@ mod tests {
             henderson_centre(),
             &[-325, -468, 0, 1100, 2475, 3600, 4032, 3600, 2475, 1100, 0, -468, -325]
         );
-        assert_eq!(henderson_centre().iter().sum::<i128>(), HENDERSON_DIVISOR);
+        assert_eq!(henderson_rows(9).middle, [-99, -24, 288, 648, 805, 648, 288, -24, -99]);
+        for terms in LENGTHS {
+            let rows = henderson_rows(terms);
+            assert_eq!((rows.middle.len(), rows.ends.len()), (terms, terms / 2));
+            assert_eq!(rows.middle.iter().sum::<i128>(), rows.divisor);
+        }
     }
 
     #[test]
     fn with_the_factor_as_printed_in_003_the_sum_is_not_one() {
-        // 003 prints (n-1)² where n²-1 belongs: the sum comes out 63/49.
-        let mut sum = Fraction::whole(0);
-        for weight in henderson_by_formula() {
-            sum = sum.plus(&weight.times(&Fraction::new(63, 49)));
+        // 003 prints (n-1)² where n²-1 belongs: the sum comes out (n+1)/(n-1),
+        // 63/49 for 13 terms.
+        for (terms, n) in [(9, 6), (13, 8), (23, 13)] {
+            let factor = Fraction::new(n * n - 1, (n - 1) * (n - 1));
+            let mut sum = Fraction::whole(0);
+            for weight in henderson_by_formula(terms) {
+                sum = sum.plus(&weight.times(&factor));
+            }
+            assert_eq!(sum, Fraction::new(n + 1, n - 1));
         }
-        assert_eq!(sum, Fraction::new(9, 7));
     }
 
     #[test]
@@ -205,35 +264,42 @@ mod tests {
 
     #[test]
     fn end_rows_sum_to_one_exactly_and_in_millionths() {
-        for f in 0..=5 {
-            let exact = musgrave_exact(f);
-            assert_eq!(exact.len(), 7 + f);
-            let mut sum = Fraction::whole(0);
-            for weight in &exact {
-                sum = sum.plus(weight);
+        for terms in LENGTHS {
+            for (f, row) in henderson_rows(terms).ends.iter().enumerate() {
+                let exact = musgrave_exact(terms, f);
+                assert_eq!((exact.len(), row.len()), (terms / 2 + 1 + f, terms / 2 + 1 + f));
+                let mut sum = Fraction::whole(0);
+                for weight in &exact {
+                    sum = sum.plus(weight);
+                }
+                assert_eq!(sum, Fraction::whole(1));
+                assert_eq!(row.iter().sum::<i128>(), MILLION);
             }
-            assert_eq!(sum, Fraction::whole(1));
-            assert_eq!(musgrave_millionths(f).len(), 7 + f);
-            assert_eq!(musgrave_millionths(f).iter().sum::<i128>(), MILLION);
         }
     }
 
+    /// 4/(π·r²) to four places, r being 1, 3.5 and 4.5.
     #[test]
-    fn the_signal_to_noise_fraction() {
-        let d = 4.0 / (std::f64::consts::PI * 3.5 * 3.5);
-        assert_eq!((d * 10000.0).round() as i64, 1039);
+    fn the_signal_to_noise_fractions() {
+        for (terms, r) in [(9, 1.0), (13, 3.5), (23, 4.5)] {
+            let d = 4.0 / (std::f64::consts::PI * r * r);
+            assert_eq!(Fraction::new((d * 10_000.0f64).round() as i128, 10_000), musgrave_ratio(terms));
+        }
     }
 
     #[test]
     fn rows_at_the_ends_cover_the_right_months() {
         let n = 72;
-        for t in 0..n {
-            let row = henderson_at(t, n);
-            assert_eq!(row.first, t.saturating_sub(6));
-            assert_eq!(row.first + row.weights.len() - 1, (t + 6).min(n - 1));
-            let mut turned = henderson_at(n - 1 - t, n).weights;
-            turned.reverse();
-            assert_eq!(row.weights, turned);
+        for terms in LENGTHS {
+            let side = terms / 2;
+            for t in 0..n {
+                let row = henderson_at(terms, t, n);
+                assert_eq!(row.first, t.saturating_sub(side));
+                assert_eq!(row.first + row.weights.len() - 1, (t + side).min(n - 1));
+                let mut turned = henderson_at(terms, n - 1 - t, n).weights;
+                turned.reverse();
+                assert_eq!(row.weights, turned);
+            }
         }
     }
 }

@@ -19,11 +19,16 @@
 //!    replaced values of B4g and B9g agree wherever there are two neighbours
 //!    on each side; where a side has fewer, the book takes four in all, the
 //!    other side lending, and we take the three nearest.
+//!
+//! And the rows of all lengths beside the book's.  Its final trend has 13
+//! terms, which our sums choose for its printed tables too, so that D12 is
+//! compared as before.
 
 use std::collections::BTreeMap;
 use separate::calendar::{by_year, labels, labels_of_part, run, Label};
 use separate::extremes::{replaced_run, RunValue};
 use separate::fraction::Fraction;
+use separate::noise::Noise;
 use separate::pass::{ends_repeated, henderson, seasonal_3x3, seasonal_3x5, two_by_twelve, Fractions, Placed};
 use separate::rounding::nearest_away;
 use separate::rows::{henderson_at, henderson_by_formula, musgrave_exact, musgrave_millionths, three_by_five, three_by_three};
@@ -117,7 +122,7 @@ fn out_of_reach(exact: &Fractions, printed: &Placed, sizes_of_weights: impl Fn(u
 }
 
 fn henderson_sizes(t: usize) -> f64 {
-    let row = henderson_at(t, N);
+    let row = henderson_at(13, t, N);
     row.weights.iter().map(|w| w.abs() as f64).sum::<f64>() / row.divisor as f64
 }
 
@@ -210,7 +215,7 @@ fn two_by_twelve_of_the_second_seasonal_with_repeated_ends() {
 fn henderson_with_ends() {
     let tables = printed_tables();
     for (from, to, equal) in [("B6", "B7", 101), ("C6", "C7", 94), ("D6", "D7", 103), ("D11bis", "D12", 103)] {
-        let exact = henderson(&placed(&tables[from]).values);
+        let exact = henderson(&placed(&tables[from]).values, 13);
         check_pair(&format!("Henderson {from} to {to}"), &exact, &exact.rounded(), &placed(&tables[to]), equal, [0, 0]);
     }
 }
@@ -271,15 +276,20 @@ fn smoothed_runs(table: &Floats, row: fn(usize, usize) -> Vec<i128>, reach: usiz
     out
 }
 
-/// The end weights with the signal to noise ratio 4/(π·3.5²) unrounded.
-fn unrounded_end_weights(f: usize) -> Vec<f64> {
-    let all: Vec<f64> = henderson_by_formula().iter().map(Fraction::roughly).collect();
-    let many = 7 + f;
+/// The end weights with the signal to noise ratio 4/(π·R²) unrounded.
+fn unrounded_end_weights(terms: usize, f: usize) -> Vec<f64> {
+    let all: Vec<f64> = henderson_by_formula(terms).iter().map(Fraction::roughly).collect();
+    let many = terms / 2 + 1 + f;
     let m = many as f64;
-    let d = 4.0 / (std::f64::consts::PI * 3.5 * 3.5);
+    let r: f64 = match terms {
+        9 => 1.0,
+        13 => 3.5,
+        _ => 4.5,
+    };
+    let d = 4.0 / (std::f64::consts::PI * r * r);
     let middle = (m + 1.0) / 2.0;
-    let lost: f64 = (many + 1..=13).map(|i| all[i - 1]).sum();
-    let moment: f64 = (many + 1..=13).map(|i| (i as f64 - middle) * all[i - 1]).sum();
+    let lost: f64 = (many + 1..=terms).map(|i| all[i - 1]).sum();
+    let moment: f64 = (many + 1..=terms).map(|i| (i as f64 - middle) * all[i - 1]).sum();
     (1..=many)
         .map(|j| {
             let slope = (j as f64 - middle) * d / (1.0 + m * (m - 1.0) * (m + 1.0) / 12.0 * d);
@@ -300,13 +310,13 @@ fn henderson_floats(table: &Floats, ends: EndRows) -> Floats {
     table
         .keys()
         .map(|&t| {
-            let row = henderson_at(t, N);
+            let row = henderson_at(13, t, N);
             let mut weights: Vec<f64> = row.weights.iter().map(|w| *w as f64 / row.divisor as f64).collect();
             let after = N - 1 - t;
             if ends == EndRows::Book && after < 6 {
-                weights = unrounded_end_weights(after);
+                weights = unrounded_end_weights(13, after);
             } else if ends == EndRows::Book && t < 6 {
-                weights = unrounded_end_weights(t);
+                weights = unrounded_end_weights(13, t);
                 weights.reverse();
             }
             (t, weights.iter().enumerate().map(|(i, w)| w * table[&(row.first + i)]).sum())
@@ -524,8 +534,8 @@ fn hundred_thousandths(word: &str) -> i128 {
 fn musgrave_rows_beside_table_3_11() {
     let mut differing = Vec::new();
     for (f, column) in TABLE_3_11.iter().enumerate() {
-        let exact = musgrave_exact(f);
-        let unrounded = unrounded_end_weights(f);
+        let exact = musgrave_exact(13, f);
+        let unrounded = unrounded_end_weights(13, f);
         assert_eq!(exact.len(), column.len());
         for (j, word) in column.iter().enumerate() {
             let printed = hundred_thousandths(word);
@@ -545,11 +555,114 @@ fn musgrave_rows_beside_table_3_11() {
     assert_eq!(differing, vec![(0, 1), (0, 2), (0, 6), (0, 7), (1, 1), (1, 5), (2, 7), (3, 1), (5, 10)]);
 }
 
+/// Tables 3.10 (9 terms) and 3.12 (23 terms) of the book without their first
+/// columns: a line a month, oldest first, the columns with ever fewer values
+/// to follow.  "." stands where the copy of the book has no number.
+const TABLE_3_10: &str = "-0.03082 -0.02262 -0.04941 -0.15554
+-0.00426 -0.00021 -0.01056 -0.03384
+0.11980 0.11969 0.12578 0.18536
+0.26361 0.25933 0.28187 0.42429
+0.32391 0.31547 0.35445 0.57972
+0.25504 0.24244 0.29786
+0.10267 0.08590
+-0.02995";
+
+const TABLE_3_12: &str = "-0.00390 -0.00282 -0.00103 0.00108 0.00268 0.00258 -0.00065 -0.00861 -0.02293 -0.04520 -0.07689
+-0.01059 -0.00968 -0.00817 -0.00642 -0.00511 -0.00519 -0.00776 -0.01396 -0.02486 -0.04130 -0.06385
+-0.01542 -0.01467 -0.01344 -0.01205 -0.01103 -0.01109 -0.01300 -0.01744 -0.02491 -0.03554 -0.04893
+-0.01431 -0.01372 -0.01279 -0.01175 -0.01101 -0.01106 -0.01230 -0.01500 -0.01904 -0.02385 -0.02808
+-0.00479 -0.00436 -0.00372 -0.00303 -0.00258 -0.00261 -0.00319 -0.00413 -0.00475 -0.00373 0.00119
+0.01354 0.01380 0.01416 0.01448 0.01465 0.01464 0.01472 0.01554 0.01834 0.02518 0.03925
+0.03898 0.03908 0.03916 0.03913 0.03900 0.03902 0.03976 0.04233 0.04856 0.06121 0.08444
+0.06830 0.06823 0.06802 0.06764 0.06723 0.06726 0.06866 0.07299 0.08264 0.10112 0.13350
+0.09734 0.09711 0.09661 0.09587 0.09517 0.09522 0.09729 0.10337 0.11644 0.14074 0.18228
+0.12184 0.12144 0.12066 0.11956 0.11858 0.11865 0.12137 0.12921 0.14571 0.17583 0.22652
+. 0.13759 . . . . . . . . .
+0.14384 0.14312 0.14176 0.13995 0.13839 0.13850 0.14255 0.15390 0.17724 0.21901 0.28801
+0.13804 0.13716 0.13551 0.13334 0.13150 0.13163 0.13634 0.14945 0.17622 0.22380
+0.12162 0.12057 0.11864 0.11611 0.11399 0.11413 0.11951 0.13437 0.16456
+. 0.09580 . . . . . 0.11111
+0.06786 0.06649 0.06398 0.06075 0.05805 0.05823 0.06493
+. 0.03690 . . . .
+. 0.01118 . . 0.00088
+. . . -0.01509
+. . .
+. .
+-0.01169";
+
+/// The printed end weights of a length: how many there are, and how many
+/// differ by one in the fifth digit from those with D a fraction of four
+/// places.  With D unrounded none does.
+fn end_weights_beside(terms: usize, table: &str) -> (usize, usize) {
+    let (mut printed, mut differing) = (0, 0);
+    for (j, line) in table.lines().enumerate() {
+        for (column, word) in line.split(' ').enumerate().filter(|(_, word)| *word != ".") {
+            let f = terms / 2 - 1 - column;
+            let word = hundred_thousandths(word);
+            assert_eq!((unrounded_end_weights(terms, f)[j] * 100_000.0).round() as i128, word, "{terms} terms {f} {j}");
+            let five_digits = musgrave_exact(terms, f)[j].times(&Fraction::whole(100_000)).nearest_away();
+            let off = (five_digits.to_i128().unwrap() - word).abs();
+            assert!(off <= 1);
+            printed += 1;
+            differing += usize::from(off == 1);
+        }
+    }
+    (printed, differing)
+}
+
 #[test]
-fn henderson_row_beside_table_3_5() {
-    let printed = ["-0.01935", "-0.02786", "0.00000", "0.06549", "0.14736", "0.21434", "0.24006"];
-    for (weight, word) in henderson_by_formula().iter().zip(printed) {
-        assert_eq!(weight.times(&Fraction::whole(100_000)).nearest_away(), Whole::from(hundred_thousandths(word)));
+fn musgrave_rows_beside_tables_3_10_and_3_12() {
+    assert_eq!(end_weights_beside(9, TABLE_3_10), (26, 0));
+    assert_eq!(end_weights_beside(23, TABLE_3_12), (155, 3));
+}
+
+/// Table 3.5, from the outside to the centre, and the fractions above it.
+#[test]
+fn henderson_rows_beside_table_3_5() {
+    let printed: [(usize, i128, &[&str], &[i128]); 3] = [
+        (9, 2_431, &["-0.04072", "-0.00987", "0.11847", "0.26656", "0.33114"], &[-99, -24, 288, 648, 805]),
+        (
+            13,
+            16_796,
+            &["-0.01935", "-0.02786", "0.00000", "0.06549", "0.14736", "0.21434", "0.24006"],
+            &[-325, -468, 0, 1100, 2475, 3600, 4032],
+        ),
+        (
+            23,
+            4_032_015,
+            &[
+                "-0.00428", "-0.01092", "-0.01569", "-0.01453", "-0.00495", "0.01343", "0.03893", "0.06830", "0.09740",
+                "0.12195", "0.13832", "0.14406",
+            ],
+            &[-17250, -44022, -63250, -58575, -19950, 54150, 156978, 275400, 392700, 491700, 557700, 580853],
+        ),
+    ];
+    for (terms, divisor, decimals, fractions) in printed {
+        assert_eq!((decimals.len(), fractions.len()), (terms / 2 + 1, terms / 2 + 1));
+        for ((weight, word), upper) in henderson_by_formula(terms).iter().zip(decimals).zip(fractions) {
+            assert_eq!(weight.times(&Fraction::whole(100_000)).nearest_away(), Whole::from(hundred_thousandths(word)));
+            assert_eq!(weight, &Fraction::new(*upper, divisor));
+        }
+    }
+}
+
+/// The book asks the same of growth in percents that we ask of differences;
+/// its ratios are 7.14 in B7, 2.548 in C7, 2.382 in D7 and 2.742 in D12.  In
+/// part B it knows 9 and 13 terms only; otherwise it has the bands of 002 and
+/// takes 13, and so do its printed tables by our sums.
+#[test]
+fn the_length_chosen_beside_the_book() {
+    let tables = printed_tables();
+    for (adjusted, trend, ratio, terms) in
+        [("B6", "B7", 7.14, 23), ("C6", "C7", 2.548, 13), ("D6", "D7", 2.382, 13), ("D11bis", "D12", 2.742, 13)]
+    {
+        let c = placed(&tables[trend]);
+        let irregular = placed(&tables[adjusted]).less(&c);
+        let noise = Noise::of(&irregular.values, &c.values);
+        let ours = noise.i as f64 / noise.c as f64;
+        println!("I/C of {trend}: ours {ours:.3} printed {ratio}");
+        assert!((ours - ratio).abs() < 0.1, "{trend}");
+        assert_eq!(noise.terms(), terms, "{trend}");
     }
 }
 

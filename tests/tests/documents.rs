@@ -1,5 +1,5 @@
-//! What the documents show, beside the separately written program and the repository: README's sample, METHOD's rows, the runs of its part 3.9
-//! and its flooded January, the wrong programs that CONTRACTS names.
+//! What the documents show, beside the separately written program and the repository: README's sample, METHOD's rows and those that are stored, the
+//! runs of its part 3.9, its flooded January and its lengths of the final trend, the wrong programs that CONTRACTS names.
 
 use separate::decompose::decompose_fitting;
 use separate::desk::bytes_of;
@@ -7,7 +7,7 @@ use separate::extremes::{neighbours, RunValue};
 use separate::generators::book_series;
 use separate::pass::pass;
 use separate::print::printed;
-use separate::rows::{henderson_centre, musgrave_millionths, three_by_five, three_by_three};
+use separate::rows::{henderson_at, henderson_rows, three_by_five, three_by_three, HendersonRows, LENGTHS};
 use std::fs;
 use std::path::{Path, PathBuf};
 
@@ -53,10 +53,27 @@ fn method_has_every_row() {
     };
     assert_eq!(rows(&part("2.3", "2.4")), by_counts(three_by_three, 2));
     assert_eq!(rows(&part("2.4", "2.5")), by_counts(three_by_five, 3));
-    let centre = part("2.5", "2.6");
-    assert_eq!(numbers(centre.lines().nth(2).expect("the row")), henderson_centre());
-    let ends: Vec<Vec<i128>> = (0..6).rev().map(|f| [&[f as i128], musgrave_millionths(f)].concat()).collect();
-    assert_eq!(rows(&part("2.6", "2.7")), ends);
+    let worked: Vec<&HendersonRows> = LENGTHS.into_iter().map(henderson_rows).collect();
+    let middle: Vec<Vec<i128>> = part("2.5", "2.6").lines().filter(|l| l.starts_with("    ") && numbers(l).len() > 8).map(numbers).collect();
+    assert_eq!(middle, worked.iter().map(|rows| rows.middle.clone()).collect::<Vec<_>>());
+    let ends = worked.iter().flat_map(|rows| rows.ends.iter().enumerate().rev().map(|(f, row)| [vec![f as i128], row.clone()].concat()));
+    assert_eq!(rows(&part("2.6", "2.7")), ends.collect::<Vec<_>>());
+}
+
+/// Henderson's rows as the code stores them: those for the start, the middle row, those for the end, each filled up with zeros.
+#[test]
+fn stored_rows_are_those_of_the_formulas() {
+    for terms in LENGTHS {
+        let source = document(&format!("crates/rows/src/henderson_{terms}.rt"));
+        let constants = between(&source, "= [", "];");
+        let stored: Vec<i128> = constants.lines().filter(|line| !line.contains("//")).flat_map(numbers).collect();
+        // Of a series of this many months each row serves one, from none before to none after.
+        let served = (0..terms).map(|t| henderson_at(terms, t, terms));
+        let worked: Vec<i128> = served.flat_map(|row| [row.weights.clone(), vec![0; terms - row.weights.len()]].concat()).collect();
+        assert_eq!(stored, worked, "{terms}");
+        let shape = between(&source, "Shape {", "}");
+        assert_eq!(numbers(shape), [terms as i128 / 2, 1, terms as i128, henderson_rows(terms).divisor, 1_000_000]);
+    }
 }
 
 /// The row of a table in Markdown whose first cell begins with a word: its other cells.
@@ -98,6 +115,23 @@ fn method_has_the_flooded_january() {
     assert_eq!(shown("B10"), of_six(&|t| tables.b10[t]));
     let plain = pass(&tables.b1).s2.values;
     assert_eq!(shown("S2, were no value replaced"), of_six(&|t| plain[t]));
+    assert_eq!(shown("D12, of 23 terms"), of_six(&|t| tables.d12[t]));
+}
+
+#[test]
+fn method_has_lengths_of_the_final_trend() {
+    let method = document("docs/METHOD.md");
+    let table = between(&method, "Three series of 72 figures:\n\n", "\n\n");
+    let rows: Vec<Vec<i128>> = table.lines().skip(2).map(|line| line.trim_matches('|').split('|').skip(1).flat_map(numbers).collect()).collect();
+    let flooded = |t: i32| if t == 18 { 500 } else { 1000 + t * t % 17 };
+    let uneven = |t: i32| if t == 50 { 1305 } else { 1000 + 8 * t + (6 * t * t + 7 * t) % 11 };
+    let straight = |t: i32| 1000 + t;
+    let series: [(&dyn Fn(i32) -> i32, u8); 3] = [(&flooded, 7), (&uneven, 7), (&straight, 1)];
+    let worked = series.map(|(figure, start)| {
+        let tables = decompose_fitting(&(0..72).map(figure).collect::<Vec<i32>>(), start).expect("tables");
+        vec![i128::from(start), tables.noise.i.into(), tables.noise.c.into(), tables.trend_terms as i128]
+    });
+    assert_eq!(rows, worked);
 }
 
 /// The edits of a crate's must-fail folder: crate/label, and whether a rule is edited.

@@ -7,7 +7,7 @@ use separate::decompose::decompose_fitting;
 use separate::extremes::{replaced_run, RunValue};
 use separate::generators::{cases, ties, Case};
 use separate::pass::{ends_repeated, henderson, pass, seasonal_3x3, seasonal_3x5, two_by_twelve, Fractions, Placed, RunFilter};
-use separate::rows::MILLION;
+use separate::noise::Noise;
 use separate::spread::weights;
 use std::collections::{BTreeMap, BTreeSet};
 
@@ -32,7 +32,7 @@ fn each_filter_takes_a_half_to_the_even_grain() {
     }
     // Henderson: half of each weight, 2,475/2 and -325/2 being halves.
     for sign in [1, -1] {
-        let trend = henderson(&alone(sign * 8_398, 40).values).rounded();
+        let trend = henderson(&alone(sign * 8_398, 40).values, 13).rounded();
         assert_eq!([40, 41, 42, 43, 44, 45, 46].map(|t| sign * trend.at(t)), [2_016, 1_800, 1_238, 550, 0, -234, -162]);
     }
 }
@@ -92,11 +92,10 @@ impl Working {
         Working { rule, met: BTreeMap::new() }
     }
 
-    /// Rounds a table; the end rows of Henderson are counted by themselves.
-    fn grains(&mut self, name: String, exact: &Fractions) -> Placed {
-        for &(upper, lower) in &exact.values {
-            let name = if lower == MILLION { format!("{name} ends") } else { name.clone() };
-            let counts = self.met.entry(name).or_default();
+    /// Rounds a table; its halves are counted under the name of each month's part.
+    fn rounded(&mut self, part: impl Fn(usize) -> String, exact: &Fractions) -> Placed {
+        for (t, &(upper, lower)) in exact.values.iter().enumerate() {
+            let counts = self.met.entry(part(t)).or_default();
             let below = upper.div_euclid(lower);
             if 2 * upper == (2 * below + 1) * lower {
                 counts[2 * usize::from(below < 0) + usize::from(below % 2 != 0)] += 1;
@@ -104,6 +103,17 @@ impl Working {
         }
         let values = exact.values.iter().map(|&(upper, lower)| nearest(upper, lower, self.rule)).collect();
         Placed { first: exact.first, values }
+    }
+
+    fn grains(&mut self, name: String, exact: &Fractions) -> Placed {
+        self.rounded(|_| name.clone(), exact)
+    }
+
+    /// Henderson of so many terms; the months of the end rows are counted by themselves.
+    fn trend(&mut self, name: &str, series: &[i64], terms: usize) -> Placed {
+        let middle = terms / 2..series.len() - terms / 2;
+        let part = |t: usize| format!("{name}{}", if middle.contains(&t) { "" } else { " ends" });
+        self.rounded(part, &henderson(series, terms))
     }
 
     fn seasonal(&mut self, name: &str, step: &str, si: &Placed, filter: RunFilter) -> Placed {
@@ -140,7 +150,7 @@ impl Working {
         let s1 = self.seasonal(name, "1", &si1, seasonal_3x3);
         let source = |t: usize| if t < 6 { t + 12 } else if t > n - 7 { t - 12 } else { t };
         let a1: Vec<i64> = (0..n).map(|t| x.at(t) - s1.at(source(t))).collect();
-        let t2 = self.grains(format!("{name} T2"), &henderson(&a1));
+        let t2 = self.trend(&format!("{name} T2"), &a1, 13);
         let mut si2 = x.less(&t2);
         if let Some(labels) = labels {
             si2 = self.replaced("B9", &si2, seasonal_3x5, labels);
@@ -165,10 +175,11 @@ impl Working {
         let b = self.pass("B", &b1, Some(&labels));
         let c1 = self.corrected("B20", &b1, b, &labels);
         let c = self.pass("C", &c1, None);
+        let terms = Noise::of(&less(&less(&b1, &c.1), &c.0), &c.0).terms();
         let d1 = self.corrected("C20", &b1, c, &labels);
         let (_, d10) = self.pass("D", &d1, None);
         let d11 = less(&b1, &d10);
-        let d12 = self.grains("D12".to_string(), &henderson(&less(&d1, &d10))).values;
+        let d12 = self.trend(&format!("D12 of {terms} terms"), &less(&d1, &d10), terms).values;
         let d13 = less(&d11, &d12);
         [d10, d11, d12, d13]
     }
@@ -185,7 +196,8 @@ fn tables_of_the_program(case: &Case) -> [Vec<i64>; 4] {
 }
 
 /// The program takes every half to the even grain, and the made-up series bring halves of each kind to every table that can meet one. The
-/// 3×3 cannot: 27 is odd. Nor can T1 of pass B, a sum of whole units: 1,000 over 24 is 125 over 3.
+/// 3×3 cannot: 27 is odd. Nor can the middle of a final trend of 9 terms: 2,431 is odd. Nor can T1 of pass B, a sum of whole units: 1,000
+/// over 24 is 125 over 3.
 #[test]
 fn halves_of_every_kind_are_met_and_go_to_the_even_grain() {
     let mut working = Working::new(to_even);
@@ -195,13 +207,13 @@ fn halves_of_every_kind_are_met_and_go_to_the_even_grain() {
     println!("halves above zero with an even and an odd grain below, and below zero:");
     for (name, counts) in &working.met {
         println!("{name} {counts:?}");
-        if ["B T1", "B4 R", "B R1", "C R1", "D R1"].contains(&name.as_str()) {
+        if ["B T1", "B4 R", "B R1", "C R1", "D R1", "D12 of 9 terms"].contains(&name.as_str()) {
             assert_eq!(counts, &[0; 4], "{name}");
         } else {
             assert!(counts.iter().all(|&count| count > 0), "{name} {counts:?}");
         }
     }
-    assert_eq!(working.met.len(), 31, "a table is missing");
+    assert_eq!(working.met.len(), 35, "a table is missing");
 }
 
 #[test]

@@ -7,15 +7,18 @@ use separate::exact::{distance, exact_pass, exact_working, FourDistances};
 use separate::exact_b::{exact_pass_b, DistanceB, Held};
 use separate::fraction::Fraction;
 use separate::generators::{
-    cases, grain_cases, henderson_halves, small_random, smaller_random, Case, SEEDS_WITH_HALVES_AT_THE_ENDS,
-    SEEDS_WITH_HALVES_IN_THE_MIDDLE, SEEDS_WITH_MANY_HALVES,
+    cases, grain_cases, halves_of_the_final_trend, henderson_halves, small_random, smaller_random, Case,
+    SEEDS_WITH_HALVES_AT_THE_ENDS, SEEDS_WITH_HALVES_IN_THE_MIDDLE, SEEDS_WITH_MANY_HALVES,
 };
 use separate::pass::pass;
+use separate::rows::LENGTHS;
+use std::collections::{BTreeMap, BTreeSet};
 
 #[test]
 fn every_case_adds_back_and_keeps_its_distance() {
-    let mut greatest = [0.0f64; 4];
-    let mut halves = [0usize; 7];
+    let mut greatest: BTreeMap<usize, [f64; 4]> = BTreeMap::new();
+    let mut halves = [0usize; 6];
+    let mut halves_of_d12: BTreeMap<usize, usize> = BTreeMap::new();
     let mut partly = 0;
     for case in cases() {
         let tables = decompose_fitting(&case.figures, case.start).expect("an allowed series");
@@ -28,10 +31,11 @@ fn every_case_adds_back_and_keeps_its_distance() {
                 partly += 1;
             }
         }
-        let exact = exact_working(&tables.b1, &tables.d1);
+        let exact = exact_working(&tables.b1, &tables.d1, tables.trend_terms);
         let four = FourDistances::measure(&tables.d10, &tables.d11, &tables.d12, &tables.d13, &exact);
         assert!(four.are_within_limits(), "{}", case.name);
-        for (best, d) in greatest.iter_mut().zip([&four.d10, &four.d11, &four.d12, &four.d13]) {
+        let so_far = greatest.entry(tables.trend_terms).or_default();
+        for (best, (_, d, _)) in so_far.iter_mut().zip(four.with_limits()) {
             *best = best.max(d.greatest.roughly());
         }
         for steps in [&tables.b, &tables.c, &tables.d] {
@@ -39,18 +43,20 @@ fn every_case_adds_back_and_keeps_its_distance() {
                 *sum += count;
             }
         }
-        halves[6] += tables.d12_halves;
+        *halves_of_d12.entry(tables.trend_terms).or_default() += tables.d12_halves;
     }
-    println!("greatest distances of D10 to D13: {greatest:?}");
+    println!("greatest distances of D10 to D13 by the terms of the trend: {greatest:?}");
     // A trend within 1 grain is a wrong bound (tables/must-fail/trend-within-1).
-    assert!(greatest[2] > 1.0);
-    println!("halves met in T1, R1, M1, T2, R2, M2 and D12: {halves:?}; months with a weight between: {partly}");
+    assert!(LENGTHS.iter().all(|terms| greatest[terms][2] > 1.0));
+    println!("halves met in T1, R1, M1, T2, R2 and M2: {halves:?}; in D12 by its terms: {halves_of_d12:?}");
+    println!("months with a weight between: {partly}");
     assert!(partly > 100);
     // 27ths never meet a half; all others do.
     assert_eq!(halves[1], 0);
-    for index in [0, 2, 3, 4, 5, 6] {
+    for index in [0, 2, 3, 4, 5] {
         assert!(halves[index] > 0);
     }
+    assert!(LENGTHS.iter().all(|terms| halves_of_d12[terms] > 0));
 }
 
 #[test]
@@ -137,12 +143,15 @@ fn with_nothing_held_pass_b_is_a_plain_pass() {
 /// even and with an odd grain below, then below zero).
 fn henderson_kinds(case: &Case) -> Vec<(&'static str, bool, usize)> {
     let tables = decompose_fitting(&case.figures, case.start).unwrap();
-    let middle = 6..case.figures.len() - 6;
+    let in_the_middle = |table: &str, t: usize| {
+        let side = if table.starts_with("D D12") { tables.trend_terms / 2 } else { 6 };
+        (side..case.figures.len() - side).contains(&t)
+    };
     let kind = |sum: &Fraction| {
         let twice = sum.upper().to_i128().unwrap();
         2 * usize::from(twice < 0) + usize::from(twice.div_euclid(2) % 2 != 0)
     };
-    henderson_halves(&tables).iter().map(|(table, t, sum)| (*table, middle.contains(t), kind(sum))).collect()
+    henderson_halves(&tables).iter().map(|(table, t, sum)| (*table, in_the_middle(table, *t), kind(sum))).collect()
 }
 
 #[test]
@@ -150,12 +159,18 @@ fn the_seeds_meet_halves_in_henderson_sums() {
     for seed in SEEDS_WITH_HALVES_IN_THE_MIDDLE {
         assert!(henderson_kinds(&small_random(seed)).iter().any(|&(_, middle, _)| middle), "seed {seed}");
     }
-    for index in 0..16 {
-        let (table, kind) = (["B T2", "C T2", "D T2", "D D12"][index / 4], index % 4);
+    for index in 0..12 {
+        let (table, kind) = (["B T2", "C T2", "D T2"][index / 4], index % 4);
         let (at_the_ends, in_the_middle) = (SEEDS_WITH_HALVES_AT_THE_ENDS[index], SEEDS_WITH_MANY_HALVES[index]);
         assert!(henderson_kinds(&small_random(at_the_ends)).contains(&(table, false, kind)), "seed {at_the_ends}");
         assert!(henderson_kinds(&smaller_random(in_the_middle)).contains(&(table, true, kind)), "seed {in_the_middle}");
     }
+    let mut kinds = BTreeSet::new();
+    for (table, in_the_middle, kind, case) in halves_of_the_final_trend() {
+        assert!(henderson_kinds(&case).contains(&(table, in_the_middle, kind)), "{}", case.name);
+        kinds.insert((table, in_the_middle, kind));
+    }
+    assert_eq!(kinds.len(), 5 * 4);
 }
 
 /// The exact working against floating numbers: not exact, but an
@@ -164,7 +179,7 @@ fn the_seeds_meet_halves_in_henderson_sums() {
 fn fractions_agree_with_floating_numbers() {
     for case in cases().into_iter().step_by(11) {
         let tables = decompose_fitting(&case.figures, case.start).unwrap();
-        let exact = exact_working(&tables.b1, &tables.d1);
+        let exact = exact_working(&tables.b1, &tables.d1, tables.trend_terms);
         for t in 0..case.figures.len() {
             let sum = exact.e10[t].plus(&exact.e12[t]).plus(&exact.e13[t]);
             assert_eq!(sum.to_string(), format!("{}/1", tables.b1[t]));
@@ -207,7 +222,7 @@ fn floating_seasonal(series: &[i64]) -> Vec<f64> {
     }
     let mut si2 = vec![0.0; n];
     for t in 0..n {
-        let row = henderson_at(t, n);
+        let row = henderson_at(13, t, n);
         let mut trend = 0.0;
         for (index, w) in row.weights.iter().enumerate() {
             trend += *w as f64 / row.divisor as f64 * (x[row.first + index] - s1[row.first + index]);

@@ -31,7 +31,7 @@ fn henderson_of_one_place() {
     for (n, place) in [(25usize, 12usize), (72, 40), (72, 12), (72, 59), (100, 50)] {
         let mut grains = vec![0i64; n];
         grains[place] = 16_796;
-        let trend = henderson(&grains).rounded();
+        let trend = henderson(&grains, 13).rounded();
         let outwards = [4_032, 3_600, 2_475, 1_100, 0, -468, -325];
         for t in 0..n {
             let expected = outwards.get(t.abs_diff(place)).copied().unwrap_or(0);
