@@ -2,9 +2,10 @@
    `rt staticlib vepsjalm` in the repository's folder writes the library, target/staticlib/libvepsjalm.a, for x86-64 Linux; beside it only the
    C library is needed. examples/decompose.c is a whole caller of reading and decomposing, examples/final-weights.c of writing too.
 
-   The filters are fixed: 2x12, 3x3, 3x5 and 13-term Henderson with Musgrave's ends. Extreme months are found by the library itself; in its
-   first pass their values are replaced by means of their neighbours (docs/METHOD.md, 3.8). What is filtered or corrected is rounded to the
-   nearest thousandth, a half to the even one (1.3). No multiplicative working, calendar effects, forecasts or choice of filter length.
+   The filters are 2x12, 3x3, 3x5 and Henderson's with Musgrave's ends: 13 terms in a pass, and 9, 13 or 23 for the final trend, chosen by how
+   noisy the series is (docs/METHOD.md, 4.5) and not told. Extreme months are found by the library itself; in its
+   first pass their values are replaced by means of their neighbours (3.8). What is filtered or corrected is rounded to the
+   nearest thousandth, a half to the even one (1.3). No multiplicative working, calendar effects, forecasts or choice of seasonal filter.
 
    For all three functions:
 
@@ -27,9 +28,9 @@
 /* The version of this header and of the library that goes with it (the library does not tell its own), major.minor.patch. The minor number
    goes up with every landing that changes what callers see, the patch number with every other; the major number is 0 while functions and
    constants may still change. */
-#define VEPSJALM_VERSION "0.12.0"
+#define VEPSJALM_VERSION "0.13.0"
 #define VEPSJALM_VERSION_MAJOR 0
-#define VEPSJALM_VERSION_MINOR 12
+#define VEPSJALM_VERSION_MINOR 13
 #define VEPSJALM_VERSION_PATCH 0
 
 /* The limits. */
@@ -98,7 +99,7 @@ extern "C" {
    place       set to the refusal's place; 0 after success
 
    After success, in every month, d10 + d11 and d10 + d12 + d13 are each the figure times 1,000; and beside the last pass worked in exact
-   fractions from the same corrected series d10 and d11 are within 10 thousandths, d12 within 14 and d13 within 24. */
+   fractions from the same corrected series d10 and d11 are within 10 thousandths, d12 within 15 and d13 within 25. */
 uint8_t vepsjalm_decompose(
     const int32_t *figures, size_t figures_length, uint8_t start,
     int64_t *d10, size_t d10_length, int64_t *d11, size_t d11_length,

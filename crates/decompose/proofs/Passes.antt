@@ -1,14 +1,14 @@
 -- The three passes: what each leaves is the next table of the rules, and is what the next asks.
 use mathlib.Core.Path.{_≡_, ap, _∙_}
 use mathlib.Core.List.{List}
-use Prim.Native.Nat.{ℕ}
+use Prim.Native.Nat.{ℕ, _≤_}
 use native.Mathlib.Omega.{arith}
 use lib.ListN.{length}
 use lib.IntN.{ℤ}
 use Rattle.integers.specs.Lists.{AllWithin}
 use Rattle.refusals.specs.Limits.{unit, monthsOfYear}
 use Rattle.series.specs.Operations.{minus, times}
-use Rattle.series.specs.Contracts.{Minusable}
+use Rattle.series.specs.Contracts.{widest, Minusable}
 use Rattle.series.proofs.Lengths.{length-minus, length-times}
 use Rattle.series.proofs.Largest.{larger, within-minus}
 use Rattle.rows.specs.declared.Terms.{Terms}
@@ -34,7 +34,7 @@ use Rattle.trend_length.specs.TrendLength.{trendLength}
 use Rattle.trend_length.specs.Contracts.{Measurable}
 use Rattle.figures.specs.Contracts.{WithSeasonal}
 use Rattle.checks.specs.Contracts.{Workable}
-use Rattle.decompose.specs.Contracts.{Correctable, lessExtremes, ExtremesCorrected, CorrectedTo, OfLength, Final, Finished}
+use Rattle.decompose.specs.Contracts.{Correctable, lessExtremes, ExtremesCorrected, CorrectedTo, LengthTables, Final, Finished}
 use Rattle.decompose.proofs.Grains.{within-grains}
 
 -- ---- passes B and C
@@ -94,7 +94,7 @@ module _ {start : ℕ} {f : List ℤ} (h : Workable start f) where
     correctable-c d = correctable plain-sound length-c small-c (d .seasonal) (d .trend)
 
     pub to-d1 : {s t o i : List ℤ} {r : Weighed} {w : List ℕ} → PassDone x t s → ExtremesCorrected start (times unit f) s t r o i w
-        → CorrectedTo (D1 start f) (C17 start f) r o w × OfLength start f i t
+        → CorrectedTo (D1 start f) (C17 start f) r o w × LengthTables start f i t
     unfolding lessExtremes D1 C20 C17 C13 C10 C7 B1
     to-d1 {s} {t} d k = (
       record { answered = k .answered ∙ weighed s t; series-is = k .series ∙ rw (d .seasonal, d .trend, e); weights-is = k .weights ∙ rw (d .seasonal, d .trend, e) },
@@ -105,13 +105,14 @@ module _ {start : ℕ} {f : List ℤ} (h : Workable start f) where
   final e = rw e (record { figures = h .figures; long = h .long; x-long = length-d1 start f; x-small = within-d1 start (h .figures .small) })
 
   -- ---- the tables by which the length of the final trend is chosen
-  pub measurable : {i t : List ℤ} → OfLength start f i t → Measurable 6 i × Measurable 6 t
-  measurable {i} {t} q = rw (q .irregular, q .trend) (
-    record { long = omega (arith, h .long, length-c13 start f); short = omega (arith, h .figures .short, length-c13 start f); small = larger (within-c13 start (h .figures .small)) (omega arith) },
-    record { long = omega (arith, h .long, length-c7 start f); short = omega (arith, h .figures .short, length-c7 start f); small = larger (within-c7 start (h .figures .small)) (omega arith) },
-  )
+  as-long : {b : ℕ} {x : List ℤ} → length x ≡ length f → AllWithin b x → b ≤ widest → Measurable 6 x
+  as-long l k i = record { long = omega (arith, h .long); short = omega (arith, h .figures .short); small = larger k i }
 
-  pub final-terms : {m : Terms} {i t : List ℤ} → OfLength start f i t → m ≡ trendLength 6 i t → m ≡ finalTerms start f
+  pub measurable : {i t : List ℤ} → LengthTables start f i t → Measurable 6 i × Measurable 6 t
+  measurable q = rw (q .irregular, q .trend)
+      (as-long (length-c13 start f) (within-c13 start (h .figures .small)) (omega arith), as-long (length-c7 start f) (within-c7 start (h .figures .small)) (omega arith))
+
+  pub final-terms : {m : Terms} {i t : List ℤ} → LengthTables start f i t → m ≡ trendLength 6 i t → m ≡ finalTerms start f
   unfolding finalTerms
   final-terms q e = e ∙ rw (q .irregular, q .trend)
 

@@ -63,15 +63,15 @@ pub record CorrectedTo (series : List ℤ) (weights : List ℕ) (r : Weighed) (x
   pub weights-is : w ≡ weights
 
 -- the tables by which the length of the final trend is chosen
-pub record OfLength (start : ℕ) (f i t : List ℤ) : Type 0 where
+pub record LengthTables (start : ℕ) (f i t : List ℤ) : Type 0 where
   pub irregular : i ≡ C13 start f
   pub trend : t ≡ C7 start f
 
--- what both leave
+-- what passes B and C leave
 pub record Corrected (start : ℕ) (f : List ℤ) (r : Weighed) (x i t : List ℤ) (b17 c17 : List ℕ) : Type 0 where
   pub answered : r ≡ Weights
   pub series : x ≡ D1 start f
-  pub of-length : OfLength start f i t
+  pub length-tables : LengthTables start f i t
   pub b17-is : b17 ≡ B17 start f
   pub c17-is : c17 ≡ C17 start f
 

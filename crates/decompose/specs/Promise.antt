@@ -76,5 +76,5 @@ pub record Promise (start : ℕ) (figures : List ℤ) (lent : Slices) (r : Decom
   -- METHOD 10.3 with 6.4: where the answer is tables, in each month, the exact working taking the length that the rules choose
   pub near : says r ≡ success tt → (t : ℕ) → t < length figures
       → NearAt (B1 start figures) (D1 start figures) (finalTerms start figures) (left .d10) (left .d11) (left .d12) (left .d13) t
-  -- METHOD 6.3, of each pass on its X: facts of the rules, which hold whatever the program leaves
+  -- METHOD 6.3, of each pass on its X: facts of the rules, which hold of any figures, whatever the program leaves
   pub passes : PassesNear start figures

@@ -7,7 +7,7 @@ ghost use Rattle.series.specs.Operations.{times};
 ghost use Rattle.tables.specs.Tables.{B17, C1, C17, D1};
 ghost use Rattle.checks.specs.Answer.{scratchFor};
 ghost use Rattle.checks.specs.Contracts.{Workable};
-ghost use Rattle.decompose.specs.Contracts.{Correctable, WorkSlices, WeightSlices, Scratch, ExtremesCorrected, CorrectedTo, OfLength, Corrected, Final, Finished, PassesDone};
+ghost use Rattle.decompose.specs.Contracts.{Correctable, WorkSlices, WeightSlices, Scratch, ExtremesCorrected, CorrectedTo, LengthTables, Corrected, Final, Finished, PassesDone};
 ghost use Rattle.decompose.specs.Promise.{zeroed, Promise};
 use checks::Lengths;
 use extremes::Weighed;
@@ -78,7 +78,7 @@ fn to_d1(
     requires { ⌜ Workable start (now figures) × WorkSlices (now figures) (now a) (now b) (now t) (now s)
         × (now x ≡ C1 start (now figures)) × (length (now c17) ≡ length (now figures)) ⌝ }
     ensures { λ r. ⌜ CorrectedTo (D1 start (now (figures .entry))) (C17 start (now (figures .entry))) r (now (x .exit)) (now (c17 .exit))
-        × OfLength start (now (figures .entry)) (now (b .exit)) (now (t .exit)) ⌝ }
+        × LengthTables start (now (figures .entry)) (now (b .exit)) (now (t .exit)) ⌝ }
 {
     pass::one_pass(x, a, b, t, s);
     correct_extremes(figures, start, x, a, b, t, s, c17)

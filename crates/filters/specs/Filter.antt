@@ -9,8 +9,8 @@ use Rattle.integers.specs.Sums.{wsum}
 use Rattle.rows.specs.Table.{Table, rowWeight, denominator}
 
 -- METHOD 2.1 and 2.3, at place t of n: how many values precede and follow that a row can take, and the row for so many. Each place of a run of
--- six values, which 72 months give, has three on one side; SI1 has runs of five at least, whose places have two on one side, enough for 3×3: no
--- place is short on both sides
+-- six values, which 72 months give, has three on one side; SI1 has runs of five at least, whose places have two on one side, enough for 3×3;
+-- Henderson's 23 terms ask for 22 months: no place is short on both sides
 unfoldable pub earlier : Table → ℕ → ℕ
 earlier F t = min (t / F .step) (F .side)
 
@@ -35,7 +35,7 @@ unfoldable pub valueAt : Table → List ℤ → ℕ → ℤ
 valueAt F x t = toGrain (weightedSum F x t) (denominator F (rowAt F (length x) t))
 
 -- METHOD 6.1: as a whole number over L times the denominator of the values. L is a multiple of the denominators of the rows (24, 27, 60;
--- 4,199,000,000 is 250,000 times 16,796 and 4,199 times 1,000,000), so that nothing is rounded or cut
+-- 46,189,000,000 is 19,000,000 times 2,431, 2,750,000 times 16,796 and 46,189 times 1,000,000), so that nothing is rounded or cut
 unfoldable pub exactAt : Table → ℕ → List ℤ → ℕ → ℤ
 exactAt F L x t = pos (L / denominator F (rowAt F (length x) t)) *ℤ weightedSum F x t
 

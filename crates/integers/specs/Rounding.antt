@@ -1,5 +1,5 @@
 -- METHOD 1.3 and 1.4: fractions are rounded one single time, to the nearest whole number. `toGrain` rounds every filter (2.1), every correction
--- (5.7) and every value that is replaced (3.9); `awayFromZero` the millionths of Henderson's ends (2.6) and an irregular to whole units (5.3);
+-- (5.7) and every value that is replaced (3.9); `awayFromZero` the millionths of Henderson's rows (2.5, 2.6) and an irregular to whole units (5.3);
 -- `halfUp` the quotient of a weight (5.6). Only where a fraction lies halfway between two whole numbers can they differ.
 use mathlib.Core.Path.{_≡_}
 use mathlib.Core.Bool.{cond}

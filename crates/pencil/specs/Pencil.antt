@@ -46,6 +46,22 @@ at2x12 x places = at (inside table2x12 x) (map (λ t. t - 6) places)
 abbrev hendersonOf : Terms → ℕ → ℕ → ℕ → List ℤ
 hendersonOf terms v c p = at (filter (tableHenderson terms) (one c v)) (c ∷ (c - 1) ∷ (c + 1) ∷ (c - p) ∷ (c + p) ∷ [])
 
+-- the last p results of 1,000,000 at the last month of 72, and the first p of 1,000,000 at the first: the outermost weights of the p rows for an end
+abbrev hendersonLast : Terms → ℕ → List ℤ
+hendersonLast terms p = at (filter (tableHenderson terms) (one 71 1_000_000)) (tab p (λ i. 72 - p + i))
+
+abbrev hendersonFirst : Terms → ℕ → List ℤ
+hendersonFirst terms p = at (filter (tableHenderson terms) (one 0 1_000_000)) (tab p (λ i. p - 1 - i))
+
+abbrev outermost9 : List ℤ
+outermost9 = negsuc 29_953 ∷ whole (85_905 ∷ 297_863 ∷ 579_723 ∷ [])
+
+abbrev outermost13 : List ℤ
+outermost13 = negsuc 34_008 ∷ negsuc 16_940 ∷ whole (44_835 ∷ 148_101 ∷ 279_099 ∷ 421_119 ∷ [])
+
+abbrev outermost23 : List ℤ
+outermost23 = negsuc 11_685 ∷ negsuc 18_591 ∷ negsuc 20_867 ∷ negsuc 15_086 ∷ whole (879 ∷ 27_730 ∷ 64_930 ∷ 111_106 ∷ 164_559 ∷ 223_799 ∷ 288_009 ∷ [])
+
 -- 13 terms of 16,796
 abbrev hendersonAround : ℕ → List ℤ
 hendersonAround c = hendersonOf Thirteen 16_796 c 6
@@ -57,11 +73,11 @@ hendersonWeights = pos 4032 ∷ pos 3600 ∷ pos 3600 ∷ negsuc 324 ∷ negsuc 
 abbrev hendersonHalves : ℕ → List ℤ
 hendersonHalves c = at (filter (tableHenderson Thirteen) (one c 8_398)) (c ∷ (c - 2) ∷ (c + 2) ∷ (c - 6) ∷ (c + 6) ∷ [])
 
--- the sizes of the group of the last case
+-- the sizes of the group that the list works
 abbrev exampleGroup : List ℕ
 exampleGroup = 0 ∷ 0 ∷ 0 ∷ 1 ∷ []
 
--- METHOD 4.5: the squares of 0, 1, 2, .., by turns below zero, of n months; the number of terms for two sums
+-- METHOD 4.5: the squares of t, those of even t below zero, of n months; the number of terms for two sums
 abbrev squaresByTurns : ℕ → List ℤ
 squaresByTurns n = tab n (λ t. cond (eqb (t % 2) 0) (negℤ (pos (t * t))) (pos (t * t)))
 
@@ -88,6 +104,13 @@ pencil =
     ∷ (hendersonOf Nine 2431 30 5 gives (pos 805 ∷ pos 648 ∷ pos 648 ∷ pos 0 ∷ pos 0 ∷ []))
     ∷ (hendersonOf TwentyThree 1_000_000 30 11 gives (pos 144_060 ∷ pos 138_318 ∷ pos 138_318 ∷ negsuc 4277 ∷ negsuc 4277 ∷ []))
     ∷ (hendersonOf TwentyThree 1_000_000 30 12 gives (pos 144_060 ∷ pos 138_318 ∷ pos 138_318 ∷ pos 0 ∷ pos 0 ∷ []))
+    -- 9, 13 and 23 terms, 1,000,000 at the last month: the last 4, 6 and 11 results; at the first month: the first, from the inside outwards
+    ∷ (hendersonLast Nine 4 gives outermost9)
+    ∷ (hendersonLast Thirteen 6 gives outermost13)
+    ∷ (hendersonLast TwentyThree 11 gives outermost23)
+    ∷ (hendersonFirst Nine 4 gives outermost9)
+    ∷ (hendersonFirst Thirteen 6 gives outermost13)
+    ∷ (hendersonFirst TwentyThree 11 gives outermost23)
     -- 3×3, the last value of a run 27,000: the last three results. The run of places 11, 23, .. ends with 35, 47, 59, 71
     ∷ (at (filter table3x3 (one 71 27_000)) (47 ∷ 59 ∷ 71 ∷ []) gives whole (3000 ∷ 7000 ∷ 11_000 ∷ []))
     -- 3×5, the last value of a run 60,000: the last four results
@@ -113,7 +136,7 @@ pencil =
     -- the group of sizes 0, 0, 0, 1: both spreads, and the weights of its months
     ∷ (whole (spread exampleGroup ∷ secondSpread exampleGroup ∷ []) gives whole (0 ∷ 0 ∷ []))
     ∷ (whole (map (weight (secondSpread exampleGroup)) exampleGroup) gives whole (1000 ∷ 1000 ∷ 1000 ∷ 0 ∷ []))
-    -- the sum of the sizes of changes, of squares by turns below zero: 14, 15 and 16 months
+    -- the sum of the sizes of changes, of squares whose sign turns from month to month: 14, 15 and 16 months
     ∷ (whole (map (λ n. monthChanges 6 (squaresByTurns n)) (14 ∷ 15 ∷ 16 ∷ [])) gives whole (85 ∷ 198 ∷ 343 ∷ []))
     -- the terms for sums I and C of 0 and 0, 0 and 1, 99 and 100, 100 and 100, 349 and 100, 350 and 100, 1 and 0
     ∷ (whole (countFor 0 0 ∷ countFor 0 1 ∷ countFor 99 100 ∷ countFor 100 100 ∷ countFor 349 100 ∷ countFor 350 100 ∷ countFor 1 0 ∷ [])

@@ -1,5 +1,6 @@
 -- The stored tables obey their rules, each as a whole and by computation.
-use mathlib.Core.Path.{refl}
+use mathlib.Core.Path.{_≡_, refl}
+use lib.ListN.{getD}
 use Rattle.integers.specs.Lists.{tabFrom, tab}
 use Rattle.integers.specs.Rounding.{halfUp, awayFromZero}
 use Rattle.integers.specs.Sums.{sumZ, sumN}
@@ -8,15 +9,20 @@ use Rattle.rows.specs.Table.{rowWeight, denominator}
 use Rattle.rows.specs.FilterTables.{table2x12, table3x3, table3x5, tableHenderson, overHenderson}
 use Rattle.rows.specs.declared.Terms.{Terms}
 use Rattle.rows.specs.declared.Terms.the-variants.{Nine, Thirteen, TwentyThree}
-use Rattle.rows.specs.Henderson.{closedDenominator, closedNumerator, exactNumerator, storedWeight, weightByRule, rowsByRule, HendersonRule}
+use Rattle.rows.specs.Henderson.{hendersonLengths, indexOf, closedDenominator, closedNumerator, exactNumerator, roundedWeight, weightByRule, rowsByRule, HendersonRule}
 use Rattle.rows.specs.RowRules.{RowRules}
 use Rattle.rows.proofs.RowTests.{AllFair}
 use Rattle.rows.proofs.Means.{AllMeans}
 
+stands : (m : Terms) → getD hendersonLengths (indexOf m) Nine ≡ m
+stands Nine = refl
+stands Thirteen = refl
+stands TwentyThree = refl
+
 -- Henderson's rows of every length: Musgrave's rule, and the closed formula
 pub henderson-rule : HendersonRule
-unfolding closedDenominator closedNumerator exactNumerator rowsByRule weightByRule storedWeight denominator tableHenderson tab tabFrom times sumZ awayFromZero halfUp
-henderson-rule = record { musgrave = refl; closed-formula = refl }
+unfolding closedDenominator closedNumerator exactNumerator rowsByRule weightByRule roundedWeight rowWeight denominator tableHenderson tab tabFrom times sumZ awayFromZero halfUp
+henderson-rule = record { complete = stands; musgrave = refl; closed-formula = refl; multiple = refl }
 
 -- each row sums to its denominator, and the rows before the middle one are those after it, mirrored
 pub row-rules : RowRules

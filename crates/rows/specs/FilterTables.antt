@@ -23,6 +23,6 @@ tableHenderson Nine = record { side = 4; step = 1; width = 9; rows = rowsHenders
 tableHenderson Thirteen = record { side = 6; step = 1; width = 13; rows = rowsHenderson13; middle = 16_796; ends = 1_000_000 }
 tableHenderson TwentyThree = record { side = 11; step = 1; width = 23; rows = rowsHenderson23; middle = 1_000_000; ends = 1_000_000 }
 
--- METHOD 6.1: a multiple of the denominators of Henderson's rows, 2,431, 16,796 and 1,000,000 (and of 286, that of 5 terms): one for all lengths
+-- METHOD 6.1: the least common multiple of the denominators of Henderson's rows, 2,431, 16,796 and 1,000,000, for the exact working of every length
 abbrev pub overHenderson : ℕ
 overHenderson = 46_189_000_000

@@ -4,7 +4,7 @@ use mathlib.Core.Bool.{cond}
 use mathlib.Core.List.{List, [], _∷_, map}
 use Prim.Native.Nat.{ℕ, _+_, _*_, _-_, _/_, _%_}
 use lib.Dec.{ltb, eqb}
-use lib.ListN.{take, drop}
+use lib.ListN.{getD}
 use lib.IntN.{ℤ, pos, _+ℤ_, _-ℤ_, _*ℤ_}
 use Rattle.integers.specs.Lists.{tab}
 use Rattle.integers.specs.Rounding.{awayFromZero}
@@ -12,17 +12,17 @@ use Rattle.integers.specs.Sums.{sumZ}
 use Rattle.series.specs.Operations.{times}
 use Rattle.rows.specs.declared.Terms.{Terms}
 use Rattle.rows.specs.declared.Terms.the-variants.{Nine, Thirteen, TwentyThree}
-use Rattle.rows.specs.Table.{Table, denominator}
-use Rattle.rows.specs.FilterTables.{tableHenderson}
+use Rattle.rows.specs.Table.{Table, rowWeight, denominator}
+use Rattle.rows.specs.FilterTables.{tableHenderson, overHenderson}
 
--- ---- METHOD 2.5, the closed formula. n is METHOD's m, two more than the terms of one side. The weight i places from the middle one is
--- closedNumerator n i over closedDenominator n. (One source prints (n - 1)² for the factor n² - 1 of the denominator)
+-- ---- METHOD 2.5, the closed formula, m being two more than the terms of one side. The weight i places from the middle one is closedNumerator m i over
+-- closedDenominator m. (One source prints (m - 1)² for the factor m² - 1 of the denominator)
 unfoldable pub closedDenominator : ℕ → ℕ
-closedDenominator n = 8 * n * (n * n - 1) * (4 * n * n - 1) * (4 * n * n - 9) * (4 * n * n - 25)
+closedDenominator m = 8 * m * (m * m - 1) * (4 * m * m - 1) * (4 * m * m - 9) * (4 * m * m - 25)
 
 unfoldable pub closedNumerator : ℕ → ℕ → ℤ
-closedNumerator n i =
-    pos (315 * ((n - 1) * (n - 1) - i * i) * (n * n - i * i) * ((n + 1) * (n + 1) - i * i)) *ℤ (pos (3 * n * n) -ℤ pos (16 + 11 * i * i))
+closedNumerator m i =
+    pos (315 * ((m - 1) * (m - 1) - i * i) * (m * m - i * i) * ((m + 1) * (m + 1) - i * i)) *ℤ (pos (3 * m * m) -ℤ pos (16 + 11 * i * i))
 
 -- with p terms on one side: the numerator of weight j of 2p + 1, oldest first, p - j or j - p places from the middle one
 unfoldable pub exactNumerator : ℕ → ℕ → ℤ
@@ -54,12 +54,12 @@ module _ (p d M : ℕ) where
   musgraveNumerator j = pos (M * divisor) *ℤ exactNumerator p j +ℤ pos divisor *ℤ missing +ℤ pos (3 * M * d) *ℤ (offset j *ℤ tilt)
 
   -- put over a denominator and rounded (METHOD 1.4)
-  abbrev rounded : ℕ → ℕ → ℤ
-  rounded over j = awayFromZero (pos over *ℤ musgraveNumerator j) (W * M * divisor)
+  abbrev nearest : ℕ → ℕ → ℤ
+  nearest over j = awayFromZero (pos over *ℤ musgraveNumerator j) (W * M * divisor)
 
   -- the weight that is stored; that of the present month, p places from the oldest, is that denominator less all the others
-  unfoldable pub storedWeight : ℕ → ℕ → ℤ
-  storedWeight over j = cond (eqb j p) (pos over -ℤ sumZ M (λ i. cond (eqb i p) (pos 0) (rounded over i))) (rounded over j)
+  unfoldable pub roundedWeight : ℕ → ℕ → ℤ
+  roundedWeight over j = cond (eqb j p) (pos over -ℤ sumZ M (λ i. cond (eqb i p) (pos 0) (nearest over i))) (nearest over j)
 
 -- ---- the whole table F. Weight k of row r: the middle row has all values, in its own denominator; rows after it have fewer values after the present
 -- one; rows before it are those, read backwards
@@ -67,8 +67,8 @@ unfoldable pub weightByRule : ℕ → Table → ℕ → ℕ → ℤ
 weightByRule d F r k =
     let p = F .side in
     let over = denominator F r in
-    cond (ltb r p) (cond (ltb (p + r) k) (pos 0) (storedWeight p d (p + 1 + r) over (p + r - k)))
-    (cond (ltb (3 * p - r) k) (pos 0) (storedWeight p d (3 * p + 1 - r) over k))
+    cond (ltb r p) (cond (ltb (p + r) k) (pos 0) (roundedWeight p d (p + 1 + r) over (p + r - k)))
+    (cond (ltb (3 * p - r) k) (pos 0) (roundedWeight p d (3 * p + 1 - r) over k))
 
 unfoldable pub rowsByRule : ℕ → Table → List ℤ
 rowsByRule d F = tab (F .width * F .width) (λ i. weightByRule d F (i / F .width) (i % F .width))
@@ -80,20 +80,31 @@ musgraveD Thirteen = 1_039
 musgraveD TwentyThree = 629
 
 -- ---- the stored rows (shown in proofs/Rules.antt)
--- METHOD 2.5: the lengths there are
-abbrev pub lengths : List Terms
-lengths = Nine ∷ Thirteen ∷ TwentyThree ∷ []
+-- METHOD 2.5: the lengths there are, and where each stands in the list
+abbrev pub hendersonLengths : List Terms
+hendersonLengths = Nine ∷ Thirteen ∷ TwentyThree ∷ []
 
--- those whose middle row, over its denominator, is exact, and that row
+abbrev pub indexOf : Terms → ℕ
+indexOf Nine = 0
+indexOf Thirteen = 1
+indexOf TwentyThree = 2
+
+-- those whose middle row is stored without rounding
 abbrev pub exactLengths : List Terms
 exactLengths = Nine ∷ Thirteen ∷ []
 
+-- the middle row of a table
 abbrev pub middleRow : Table → List ℤ
-middleRow F = take (F .width) (drop (F .side * F .width) (F .rows))
+middleRow F = tab (F .width) (rowWeight F (F .side))
 
 pub record HendersonRule : Type 0 where
+  -- every length stands in the list
+  pub complete : (terms : Terms) → getD hendersonLengths (indexOf terms) Nine ≡ terms
   -- METHOD 2.7: the stored rows of all lengths follow from the closed formula and Musgrave's rule, shown for whole tables at once
-  pub musgrave : map (λ m. tableHenderson m .rows) lengths ≡ map (λ m. rowsByRule (musgraveD m) (tableHenderson m)) lengths
+  pub musgrave : map (λ terms. tableHenderson terms .rows) hendersonLengths ≡ map (λ terms. rowsByRule (musgraveD terms) (tableHenderson terms)) hendersonLengths
   -- METHOD 2.7: the middle rows of 9 and 13 terms are the closed formula, nothing being rounded
-  pub closed-formula : map (λ m. let F = tableHenderson m in times (closedDenominator (F .side + 2)) (middleRow F)) exactLengths
-      ≡ map (λ m. let F = tableHenderson m in times (F .middle) (tab (F .width) (exactNumerator (F .side)))) exactLengths
+  pub closed-formula : map (λ terms. let F = tableHenderson terms in times (closedDenominator (F .side + 2)) (middleRow F)) exactLengths
+      ≡ map (λ terms. let F = tableHenderson terms in times (F .middle) (tab (F .width) (exactNumerator (F .side)))) exactLengths
+  -- METHOD 6.1: the denominator of the exact working is a multiple of those of the rows
+  pub multiple : map (λ terms. let F = tableHenderson terms in overHenderson % F .middle + overHenderson % F .ends) hendersonLengths
+      ≡ map (λ terms. 0) hendersonLengths

@@ -10,7 +10,7 @@ use Rattle.integers.specs.Lists.{tab}
 use Rattle.integers.specs.Sums.{sumZ}
 use Rattle.rows.specs.Table.{Table, rowWeight, denominator}
 use Rattle.rows.specs.FilterTables.{table2x12, table3x3, table3x5, tableHenderson}
-use Rattle.rows.specs.Henderson.{lengths}
+use Rattle.rows.specs.Henderson.{hendersonLengths}
 
 -- how many values row r takes
 abbrev pub taken : Table → ℕ → ℕ
@@ -31,12 +31,12 @@ mirrored F = tab (length (F .rows)) (λ i.
     cond (ltb k (taken F r)) (rowWeight F (2 * F .side - r) (taken F r - 1 - k)) (pos 0))
 
 -- the tables that serve the ends too
-abbrev pub tables : List Table
-tables = table3x3 ∷ table3x5 ∷ map tableHenderson lengths
+abbrev pub withEnds : List Table
+withEnds = table3x3 ∷ table3x5 ∷ map tableHenderson hendersonLengths
 
 pub record RowRules : Type 0 where
   -- METHOD 2.1: each row sums to its denominator; 2×12 has its middle row alone, which is row 6 of 13
-  pub row-sums : map sums tables ≡ map denominators tables
+  pub row-sums : map sums withEnds ≡ map denominators withEnds
   pub row-sum-2x12 : sumZ 13 (rowWeight table2x12 6) ≡ pos (denominator table2x12 6)
   -- METHOD 2.1: the rows before the middle one are those after it, read backwards
-  pub mirrors : map mirrored tables ≡ map (λ F. F .rows) tables
+  pub mirrors : map mirrored withEnds ≡ map (λ F. F .rows) withEnds

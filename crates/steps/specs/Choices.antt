@@ -65,7 +65,8 @@ pub record Choices : Type 0 where
   pub replacing1 : Replacing
   pub replacing2 : Replacing
 
--- a pass over months: 2×12, 3×3 in step 3, Henderson's 13 terms in step 5; what is left to choose is the filter of step 6 and what is replaced
+-- a pass over months: 2×12, 3×3 in step 3, Henderson's 13 terms in step 5; what is given is the filter of step 6, 3×5 in every pass, and what is
+-- replaced
 abbrev pub monthly : MovingAverage → Replacing → Replacing → Choices
 monthly seasonal2 replacing1 replacing2 =
     record {

@@ -17,24 +17,18 @@ use Rattle.extremes.specs.Years.{months, centre, yearOf, monthOf, years, yearSt
 use Rattle.extremes.specs.Spreads.{sizeOf, sizesOf, squares, spread, keep, remaining, secondSpread}
 use Rattle.extremes.specs.Weighing.{weight, weightBy, monthWeight, weightsBy, weightsOf, correctionOf}
 use Rattle.tables.specs.PassB.{irregularB4, weightsB4, irregularB9, weightsB9}
-use Rattle.tables.specs.Tables.{irregularOf, corrections, B1, B7, B10, B13, B17, B20, C1, C7, C10, C13, finalTerms}
+use Rattle.tables.specs.Tables.{irregularOf, corrections, B1, B7, B10, B13, B17, B20, C1, C7, C10, C13, C17, C20, D1, D10, finalTerms, D12}
 use Rattle.tables.specs.Examples.{flooded, FloodedJanuary, uneven, JustAbove}
 
-pub flooded-january : FloodedJanuary
-unfolding tabFrom tab oneMore rootIn root halfUp awayFromZero halfToEven toGrain sumZ minus times pick rowWeight denominator table2x12 table3x3 table3x5 tableHenderson
-    filters.earlier filters.later filters.rowAt filters.dot filters.weightedSum filters.valueAt filters.filter filters.reach filters.inside
-    neighbours.ofFullWeight neighbours.nearest neighbours.runBefore neighbours.runAfter neighbours.fullBefore neighbours.fullAfter neighbours.neighbours
-    sumAt isReplaced countedSum counted replacedAt replacedBy inner nearestLevel copied widened level T1 SI1 R1 M1 innerS1 S1 A1 T2 SI2 R2 M2 S2
-    months centre yearOf monthOf years yearStart groupAround group sizeOf sizesOf squares spread keep remaining secondSpread
-    weight weightBy monthWeight weightsBy weightsOf irregularB4 weightsB4 irregularB9 weightsB9 B1 B10 flooded
-flooded-january = record { weights-si1 = refl; weights-si2 = refl; seasonal = refl; unreplaced = refl }
-
-pub just-above : JustAbove
+pub examples : FloodedJanuary × JustAbove
 unfolding tabFrom tab oneMore rootIn root halfUp awayFromZero halfToEven toGrain sumZ sumN changes monthChanges termsFor trendLength minus times pick rowWeight denominator table2x12 table3x3 table3x5 tableHenderson
     filters.earlier filters.later filters.rowAt filters.dot filters.weightedSum filters.valueAt filters.filter filters.reach filters.inside
     neighbours.ofFullWeight neighbours.nearest neighbours.runBefore neighbours.runAfter neighbours.fullBefore neighbours.fullAfter neighbours.neighbours
     sumAt isReplaced countedSum counted replacedAt replacedBy inner nearestLevel copied widened level T1 SI1 R1 M1 innerS1 S1 A1 T2 SI2 R2 M2 S2
     months centre yearOf monthOf years yearStart groupAround group sizeOf sizesOf squares spread keep remaining secondSpread
     weight weightBy monthWeight weightsBy weightsOf correctionOf irregularB4 weightsB4 irregularB9 weightsB9 irregularOf corrections
-    B1 B7 B10 B13 B17 B20 C1 C7 C10 C13 finalTerms uneven
-just-above = record { irregular = refl; trend = refl; terms = refl }
+    B1 B7 B10 B13 B17 B20 C1 C7 C10 C13 C17 C20 D1 D10 finalTerms D12 flooded uneven
+examples = (
+  record { weights-si1 = refl; weights-si2 = refl; seasonal = refl; unreplaced = refl },
+  record { terms = refl; final = refl },
+)

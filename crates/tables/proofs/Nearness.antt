@@ -69,7 +69,7 @@ module _ (start : ℕ) (f : List ℤ) where
   s2 : Close farS2 (overS2 choicesD) (S2 choicesD d1) (exactS2 choicesD d1)
   s2 = own-s2 plain-sound d1 farT2 (omega arith)
 
-  d10 : Close farS2 overE (D10 start f) (E10 b1 d1)
+  d10 : Close farS2 overE (D10 start f) (E10 d1)
   unfolding D10 E10
   d10 = close-times overHenderson s2
 

@@ -13,16 +13,16 @@ use Rattle.tables.specs.Tables.{choicesD}
 abbrev pub overE : ℕ
 overE = overS2 choicesD * overHenderson
 
-module _ (b1 d1 : List ℤ) where
-  -- METHOD 6.2: E10, the exact seasonal, is the exact S2 of D1
-  unfoldable pub E10 : List ℤ
-  E10 = times overHenderson (exactS2 choicesD d1)
+-- METHOD 6.2: E10, the exact seasonal, is the exact S2 of D1
+unfoldable pub E10 : List ℤ → List ℤ
+E10 d1 = times overHenderson (exactS2 choicesD d1)
 
+module _ (b1 d1 : List ℤ) where
   -- METHOD 6.2: E11, the adjusted figure by it, is B1 less E10
   unfoldable pub E11 : List ℤ
-  E11 = minus (times overE b1) E10
+  E11 = minus (times overE b1) (E10 d1)
 
-  -- so many terms being those of D12
+  -- `terms` is the length of D12's filter
   module _ (terms : Terms) where
     -- METHOD 6.2: E12, the exact trend-cycle, is the exact Henderson of the difference D1 less E10, by the filter of that length
     unfoldable pub E12 : List ℤ

@@ -2,7 +2,7 @@
 -- those of the separately written program.
 use mathlib.Core.Path.{_≡_}
 use mathlib.Core.Bool.{cond}
-use mathlib.Core.List.{List, [], _∷_}
+use mathlib.Core.List.{List, [], _∷_, map}
 use Prim.Native.Nat.{ℕ, _+_, _*_, _%_}
 use lib.Dec.{eqb}
 use lib.ListN.{getD}
@@ -10,11 +10,10 @@ use lib.IntN.{ℤ, pos, negℤ}
 use Rattle.integers.specs.Lists.{tab}
 use Rattle.refusals.specs.Limits.{monthsOfYear}
 use Rattle.rows.specs.declared.Terms.the-variants.{Thirteen}
-use Rattle.trend_length.specs.TrendLength.{monthChanges}
 use Rattle.steps.specs.Choices.{plainMonthly}
 use Rattle.steps.specs.Steps.{S2}
 use Rattle.tables.specs.PassB.{weightsB4, weightsB9}
-use Rattle.tables.specs.Tables.{B1, B10, C7, C13, finalTerms}
+use Rattle.tables.specs.Tables.{B1, B10, finalTerms, D12}
 
 -- METHOD 4.4: 72 figures from start month 7, each 1,000 and the remainder of t times t by 17; but 500 at t = 18, the second January
 unfoldable pub flooded : List ℤ
@@ -37,9 +36,8 @@ pub record FloodedJanuary : Type 0 where
 unfoldable pub uneven : List ℤ
 uneven = tab 72 (λ t. cond (eqb t 50) (pos 1305) (pos (1000 + 8 * t + (6 * t * t + 7 * t) % 11)))
 
--- METHOD 4.5: I is just above C, so that the final trend has 13 terms. By the tables of pass B or D, or by one more month at the beginning, it would
--- be just below
+-- METHOD 4.5: I is just above C, so that the final trend has 13 terms; by B13 and B7, or were the change from t = 5 to t = 6 counted too, I would be
+-- just below C. What the Januaries get in D12
 pub record JustAbove : Type 0 where
-  pub irregular : monthChanges 6 (C13 7 uneven) ≡ 471_046
-  pub trend : monthChanges 6 (C7 7 uneven) ≡ 470_069
   pub terms : finalTerms 7 uneven ≡ Thirteen
+  pub final : yearByYear (pos 0) 6 6 (D12 7 uneven) ≡ map pos (1_053_385 ∷ 1_148_940 ∷ 1_244_559 ∷ 1_340_300 ∷ 1_435_222 ∷ 1_532_060 ∷ [])

@@ -1,4 +1,4 @@
--- METHOD 3.8, 4 and 6: what pass B replaces, the tables, the exact working of the results, how near the two are, and a worked example. Bounds has
+-- METHOD 3.8, 4 and 6: what pass B replaces, the tables, the exact working of the results, how near the two are, and worked examples. Bounds has
 -- how large the tables can be.
 pub mod PassB
 pub mod Tables

@@ -20,9 +20,9 @@ pub record PassesNear (start : ℕ) (figures : List ℤ) : Type 0 where
   pub pass-d : Near choicesD 4 10 (D1 start figures) (T2 choicesD (D1 start figures)) (D10 start figures)
 
 -- METHOD 6.4 and 10.3, at month t, of the tables as the caller gets them: D10 from E10 and D11 from E11 at most 10 grains, D12 from E12 at most 15,
--- D13 from E13 at most 25, D12's filter having so many terms; and D10, D12 and D13 sum to B1
+-- D13 from E13 at most 25, `terms` being the length of D12's filter; and D10, D12 and D13 sum to B1
 pub record NearAt (b1 d1 : List ℤ) (terms : Terms) (d10 d11 d12 d13 : List ℤ) (t : ℕ) : Type 0 where
-  pub seasonal : AtMostApart 10 overE (d10 ‼ t) (E10 b1 d1 ‼ t)
+  pub seasonal : AtMostApart 10 overE (d10 ‼ t) (E10 d1 ‼ t)
   pub adjusted : AtMostApart 10 overE (d11 ‼ t) (E11 b1 d1 ‼ t)
   pub trend : AtMostApart 15 overE (d12 ‼ t) (E12 b1 d1 terms ‼ t)
   pub irregular : AtMostApart 25 overE (d13 ‼ t) (E13 b1 d1 terms ‼ t)

@@ -7,7 +7,7 @@ use Rattle.integers.specs.Lists.{AllWithin}
 use Rattle.refusals.specs.Limits.{mostMonths}
 use Rattle.series.specs.Contracts.{widest}
 
--- a table with a month or more from t h to n - 1 - h
+-- a table with a month or more in t from h to n - 1 - h
 pub record Measurable (h : ℕ) (x : List ℤ) : Type 0 where
   pub long : 2 * h + 1 ≤ length x
   pub short : length x ≤ mostMonths

@@ -91,7 +91,7 @@ returns : tie.Need-returns
 returns c = let q = c .before .before .before .before .before .before .before .before .before .before .before .before .before .before in absurd (not-both (q .corrected-series .ensures .answered) (c .before .before .before .enum-told2 .given .1))
 
 trend-length-requires : tie.Need-trend-length-requires
-trend-length-requires c κs = let q = c .before .before .before .before .before .before .before .before .before .before .before .before .before in let s = q .before .before .before .before .before .before .before .before .before .before in measurable (s .pre .0) (q .corrected-series .ensures .of-length)
+trend-length-requires c κs = let q = c .before .before .before .before .before .before .before .before .before .before .before .before .before in let s = q .before .before .before .before .before .before .before .before .before .before in measurable (s .pre .0) (q .corrected-series .ensures .length-tables)
 
 slice-reshare-prefix-final-tables : tie.Need-slice-reshare-prefix-final-tables
 slice-reshare-prefix-final-tables c = search needs
@@ -129,7 +129,7 @@ same-length-14 c = search needs
 
 returns-2 : tie.Need-returns-2
 returns-2 c = let g = c .before .before .before .before .before .before .before in let m = g .before .before .before .before .before .before in let q = corrected m in let s = q .before .before .before .before .before .before .before .before .before .before in let e = q .corrected-series .ensures in
-    record { answered = refl; tables = with-terms (final-terms (s .pre .0) (e .of-length) (m .trend-length .ensures)) (rw (back q) at (g .final-tables .ensures)); b17-is = e .b17-is; c17-is = e .c17-is; scratch-is = c .before .clear2 .ensures ∙ cleared q }
+    record { answered = refl; tables = with-terms (final-terms (s .pre .0) (e .length-tables) (m .trend-length .ensures)) (rw (back q) at (g .final-tables .ensures)); b17-is = e .b17-is; c17-is = e .c17-is; scratch-is = c .before .clear2 .ensures ∙ cleared q }
 
 pub three-passes-spec : {M : Type 1} → statement M
 three-passes-spec =

@@ -18,7 +18,8 @@ module _ (s : tie.Start) where
   abbrev number : ℕ → ℤ
   number t = toZ w64 (ofZ w64 (s .args .x .now ‼ t))
 
-  change : Reads (number (s .args .t) -ℤ number (s .args .t - s .args .span)) ((s .args .x .now ‼ s .args .t) -ℤ (s .args .x .now ‼ (s .args .t - s .args .span))) (widest + widest)
+  change : Reads (number (s .args .t) -ℤ number (s .args .t - s .args .span)) ((s .args .x .now ‼ s .args .t) -ℤ (s .args .x .now ‼ (s .args .t - s .args .span)))
+      (widest + widest)
   change = i- (i-in (s .pre .0 .small .at (s .args .t)) tt) (i-in (s .pre .0 .small .at (s .args .t - s .args .span)) tt)
 
 mul-size : tie.Need-mul-size

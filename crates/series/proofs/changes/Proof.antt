@@ -19,8 +19,11 @@ loop-holds : tie.Need-loop-holds Inv-loop μ-loop
 loop-holds c = (omega arith, c .pre .order, changes-none (c .args .x .now) (c .args .span) (c .args .first), omega arith)
 
 change-into-requires : tie.Need-change-into-requires Inv-loop μ-loop
-change-into-requires c κs = let s = c .before .before in let h = s .pre in
-    (record { short = h .short; small = h .small; back = omega arith; order = omega (arith, h .back, h .order, h .inside); inside = omega arith }, omega (arith, h .back, c .before .loop .inv), omega (arith, h .inside))
+change-into-requires c κs = let s = c .before .before in let h = s .pre in (
+  record { short = h .short; small = h .small; back = omega arith; order = omega (arith, h .back, h .order, h .inside); inside = omega arith },
+  omega (arith, h .back, c .before .loop .inv),
+  omega (arith, h .inside),
+)
 
 add-sum : tie.Need-add-sum Inv-loop μ-loop
 add-sum c = let l = c .before .before in omega (arith, c .change-into .ensures, l .loop .inv, l .before .pre)

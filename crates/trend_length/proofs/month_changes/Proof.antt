@@ -1,6 +1,6 @@
 -- `trend_length::month_changes` meets its contract: the changes into t from 7 to n - 7.
 -- Assumes nothing.
-use Prim.Native.Nat.{ℕ, _-_}
+use Prim.Native.Nat.{_-_}
 use mathlib.Core.Path.{_≡_, ap, _∙_}
 use native.Mathlib.Omega.{arith}
 use lib.ListN.{length}
