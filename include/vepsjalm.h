@@ -3,9 +3,9 @@
    C library is needed. examples/decompose.c is a whole caller of reading and decomposing, examples/final-weights.c of writing too.
 
    The filters are 2x12, 3x3, 3x5 and Henderson's with Musgrave's ends: 13 terms in a pass, and 9, 13 or 23 for the final trend, chosen by how
-   noisy the series is (docs/METHOD.md, 4.5) and not told. Extreme months are found by the library itself; in its
-   first pass their values are replaced by means of their neighbours (3.8). What is filtered or corrected is rounded to the
-   nearest thousandth, a half to the even one (1.3). No multiplicative working, calendar effects, forecasts or choice of seasonal filter.
+   noisy the series is (docs/METHOD.md, 4.5) and not told. Extreme months are found by the library itself; in its first pass their values are
+   replaced by means of their neighbours (3.8). What is filtered or corrected is rounded to the nearest thousandth, a half to the even one
+   (1.3). No multiplicative working, calendar effects, forecasts or choice of seasonal filter.
 
    For all three functions:
 
@@ -99,7 +99,8 @@ extern "C" {
    place       set to the refusal's place; 0 after success
 
    After success, in every month, d10 + d11 and d10 + d12 + d13 are each the figure times 1,000; and beside the last pass worked in exact
-   fractions from the same corrected series d10 and d11 are within 10 thousandths, d12 within 15 and d13 within 25. */
+   fractions from the same corrected series, with the same length of the trend's filter, d10 and d11 are within 10 thousandths, d12 within 15
+   and d13 within 25. */
 uint8_t vepsjalm_decompose(
     const int32_t *figures, size_t figures_length, uint8_t start,
     int64_t *d10, size_t d10_length, int64_t *d11, size_t d11_length,
