@@ -1,5 +1,5 @@
 -- How far a filter's rounded values are from the exact ones.
-use mathlib.Core.Path.{_≡_, refl, ap, subst, _∙_}
+use mathlib.Core.Path.{_≡_, ap, subst, _∙_}
 use mathlib.Core.List.{List}
 use Prim.Native.Nat.{ℕ, _+_, _*_, _-_, _/_, _≤_, _<_}
 use native.Mathlib.Nat.{le-trans, mul-le-mul-left, mul-le-mul-right}
@@ -17,8 +17,8 @@ use Rattle.series.specs.Distance.{Close}
 use Rattle.series.proofs.Distances.{close-tab}
 use Rattle.rows.specs.Table.{Table, rowWeight, denominator}
 use Rattle.rows.proofs.RowTests.{Fair}
-use Rattle.filters.specs.Filter.{earlier, later, rowAt, dot, weightedSum, valueAt, exactAt, filter, exact, reach, inside, exactInside}
-use Rattle.filters.proofs.Light.{Light}
+use Rattle.filters.specs.Filter.{dot, rowFor, weightedSum, byRow, exactByRow, earlier, later, valueAt, exactAt, filter, exact, reach, inside, exactInside}
+use Rattle.filters.proofs.Light.{few-earlier, few-later, Light}
 
 -- ---- one place of a filter. R is the rounded value of S / d, and E the exact sum
 regroup : (k d q : ℕ) (R S E : ℤ) → pos (k * (d * q)) *ℤ R -ℤ pos q *ℤ E ≡ pos q *ℤ (pos k *ℤ (pos d *ℤ R -ℤ S) +ℤ (pos k *ℤ S -ℤ E))
@@ -51,33 +51,31 @@ close-weighted {b} {k} {x} {e} L N c m w p d f enough h =
 
 -- ---- so does a filter, by the norm of its rows
 module _ {b k : ℕ} {x e : List ℤ} (F : Table) (L N c : ℕ) (ok : Light L N F) (enough : b * N + 500_000 ≤ 1000 * c) (h : Close b k x e) where
-  close-place : (n t : ℕ) → n ≡ length e
-      → natAbs (pos (k * L) *ℤ toGrain (weightedSum F x t) (denominator F (rowAt F (length x) t)) -ℤ exactAt F L e t) * 1000 ≤ c * (k * L)
-  unfolding weightedSum exactAt dot
-  close-place n t i = rw (h .long)
-      (let r = rowAt F (length e) t in
-      close-weighted L N c (earlier F t + 1 + later F (length e) t) (rowWeight F r) (λ j. t - earlier F t * F .step + j * F .step) (denominator F r)
-      (ok .at (length e) t) enough h)
+  close-by-row : (m a t : ℕ) → m ≤ F .side → a ≤ F .side → natAbs (pos (k * L) *ℤ byRow F m a x t -ℤ exactByRow F L m a e t) * 1000 ≤ c * (k * L)
+  unfolding byRow exactByRow weightedSum dot
+  close-by-row m a t i j = let r = rowFor F m a in
+      close-weighted L N c (m + 1 + a) (rowWeight F r) (λ j. t - m * F .step + j * F .step) (denominator F r) (ok .at m a i j) enough h
 
-  close-at : (t : ℕ) → natAbs (pos (k * L) *ℤ valueAt F x t -ℤ exactAt F L e t) * 1000 ≤ c * (k * L)
-  unfolding valueAt
-  close-at t = close-place (length e) t refl
+  close-at : (t : ℕ) → natAbs (pos (k * L) *ℤ valueAt F 0 (length e) x t -ℤ exactAt F L 0 (length e) e t) * 1000 ≤ c * (k * L)
+  unfolding valueAt exactAt
+  close-at t = close-by-row (earlier F 0 t) (later F (length e) t) t (few-earlier F 0 t) (few-later F (length e) t)
 
   pub close-filter : Close c (k * L) (filter F x) (exact F L e)
   unfolding filter exact
-  close-filter = rw (h .long) (close-tab (length e) c (k * L) (valueAt F x) (exactAt F L e) close-at)
+  close-filter = rw (h .long) (close-tab (length e) c (k * L) (valueAt F 0 (length e) x) (exactAt F L 0 (length e) e) close-at)
 
   pub close-inside : Close c (k * L) (inside F x) (exactInside F L e)
   unfolding inside exactInside
   close-inside = rw (h .long)
-      (close-tab (length e - 2 * reach F) c (k * L) (λ i. valueAt F x (i + reach F)) (λ i. exactAt F L e (i + reach F)) (λ i. close-at (i + reach F)))
+      (close-tab (length e - 2 * reach F) c (k * L) (λ i. valueAt F 0 (length e) x (i + reach F)) (λ i. exactAt F L 0 (length e) e (i + reach F)) (λ i. close-at (i + reach F)))
 
--- ---- the exact value is the fraction: the weighted sum over the denominator is exactAt over L
-pub exact-means : (F : Table) (L N : ℕ) (x : List ℤ) (t : ℕ) → Light L N F → pos (denominator F (rowAt F (length x) t)) *ℤ exactAt F L x t ≡ pos L *ℤ weightedSum F x t
-unfolding exactAt
-exact-means F L N x t ok =
-    scale (denominator F (rowAt F (length x) t)) (L / denominator F (rowAt F (length x) t)) (weightedSum F x t)
-    ∙ ap (λ (m : ℕ). pos m *ℤ weightedSum F x t) (ok .at (length x) t .divides)
+-- ---- the exact value is the fraction: the weighted sum over the denominator is the exact one over L
+pub exact-means : (F : Table) (L N b a : ℕ) (x : List ℤ) (t : ℕ) → Light L N F → b ≤ F .side → a ≤ F .side
+    → pos (denominator F (rowFor F b a)) *ℤ exactByRow F L b a x t ≡ pos L *ℤ weightedSum F b a x t
+unfolding exactByRow
+exact-means F L N b a x t ok i j =
+    scale (denominator F (rowFor F b a)) (L / denominator F (rowFor F b a)) (weightedSum F b a x t)
+    ∙ ap (λ (m : ℕ). pos m *ℤ weightedSum F b a x t) (ok .at b a i j .divides)
   where
     scale : (d q : ℕ) (z : ℤ) → pos d *ℤ (pos q *ℤ z) ≡ pos (d * q) *ℤ z
     scale d q z = rw (rep z) (simp ringℤ (omega arith))

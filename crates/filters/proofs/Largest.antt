@@ -14,8 +14,8 @@ use Rattle.integers.specs.Sums.{wsum, norm}
 use Rattle.integers.proofs.SumLaws.{wsum-within}
 use Rattle.rows.specs.Table.{Table, rowWeight, denominator}
 use Rattle.rows.proofs.RowTests.{Fair}
-use Rattle.filters.specs.Filter.{earlier, later, rowAt, dot, weightedSum, valueAt, filter, reach, inside}
-use Rattle.filters.proofs.Light.{Light}
+use Rattle.filters.specs.Filter.{dot, rowFor, weightedSum, byRow, earlier, later, valueAt, filter, reach, inside}
+use Rattle.filters.proofs.Light.{few-earlier, few-later, Light}
 
 -- a weighted sum of numbers within b, with weights that sum to at most N thousandths of d, is within c times d
 light-sum : (S d a N b c : ℕ) → S ≤ a * b → a * 1000 ≤ N * d → N * b ≤ 1000 * c → S ≤ d * c
@@ -31,18 +31,19 @@ within-weighted {b} {x} L N c m w p d f enough h = toGrain-size (wsum m w (λ j.
 
 -- so are they, filtered, by the norm of the rows
 module _ {b : ℕ} {x : List ℤ} (F : Table) (L N c : ℕ) (ok : Light L N F) (enough : N * b ≤ 1000 * c) (h : AllWithin b x) where
-  pub within-at : (t : ℕ) → valueAt F x t within c
-  unfolding valueAt weightedSum dot
+  within-at : (t : ℕ) → valueAt F 0 (length x) x t within c
+  unfolding valueAt byRow weightedSum dot
   within-at t =
-      let n = length x in
-      let r = rowAt F n t in
-      within-weighted L N c (earlier F t + 1 + later F n t) (rowWeight F r) (λ j. t - earlier F t * F .step + j * F .step) (denominator F r)
-      (ok .at n t) enough h
+      let m = earlier F 0 t in
+      let a = later F (length x) t in
+      let r = rowFor F m a in
+      within-weighted L N c (m + 1 + a) (rowWeight F r) (λ j. t - m * F .step + j * F .step) (denominator F r)
+      (ok .at m a (few-earlier F 0 t) (few-later F (length x) t)) enough h
 
   pub within-filter : AllWithin c (filter F x)
   unfolding filter
-  within-filter = tab-within c (length x) (valueAt F x) within-at
+  within-filter = tab-within c (length x) (valueAt F 0 (length x) x) within-at
 
   pub within-inside : AllWithin c (inside F x)
   unfolding inside
-  within-inside = tab-within c (length x - 2 * reach F) (λ i. valueAt F x (i + reach F)) (λ i. within-at (i + reach F))
+  within-inside = tab-within c (length x - 2 * reach F) (λ i. valueAt F 0 (length x) x (i + reach F)) (λ i. within-at (i + reach F))

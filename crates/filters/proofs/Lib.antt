@@ -4,6 +4,7 @@ pub mod Distances
 pub mod WeightedMeans
 pub mod Largest
 pub mod Lengths
+pub mod ByMonth
 pub mod Window
 pub mod Stretches
 pub mod Stored

@@ -1,5 +1,4 @@
--- What the laws of a filter ask of its rows: at each place the row's denominator divides L, and the sizes of its weights sum to at most N
--- thousandths of it.
+-- What the laws of a filter ask of its rows: each row's denominator divides L, and the sizes of its weights sum to at most N thousandths of it.
 use Prim.Native.Nat.{ℕ, _+_, _*_, _<_, _≤_}
 use native.Mathlib.Nat.{le-trans, mul-le-mul-right}
 use native.Mathlib.Omega.{arith}
@@ -12,25 +11,30 @@ use Rattle.rows.specs.FilterTables.{table2x12, table3x3, table3x5, tableHenders
 use Rattle.rows.proofs.RowTests.{all-at, fair, AllFair, Fair, fair-row}
 use Rattle.rows.proofs.Means.{mean, AllMeans, mean-row}
 use Rattle.rows.proofs.Rules.{means2x12, means3x3, means3x5, fairHenderson, fairThirteen}
-use Rattle.filters.specs.Filter.{earlier, later, rowAt}
+use Rattle.filters.specs.Filter.{rowFor, earlier, later}
 
--- the row of a place is one of the table's, and has no more weights
-pub row-in : (F : Table) (n t : ℕ) → rowAt F n t < 2 * F .side + 1
-unfolding rowAt earlier
-row-in F n t = omega arith
+-- no more values are counted than a row takes
+pub few-earlier : (F : Table) (first t : ℕ) → earlier F first t ≤ F .side
+unfolding earlier
+few-earlier F first t = omega arith
 
-pub weights-in : (F : Table) (n t : ℕ) → earlier F t + 1 + later F n t ≤ 2 * F .side + 1
-unfolding earlier later
-weights-in F n t = omega arith
+pub few-later : (F : Table) (past t : ℕ) → later F past t ≤ F .side
+unfolding later
+few-later F past t = omega arith
 
--- the row of every place is so: what the laws of a filter ask
+-- the row for b values before and a after is one of the table's
+pub row-in : (F : Table) (b a : ℕ) → b ≤ F .side → rowFor F b a < 2 * F .side + 1
+unfolding rowFor
+row-in F b a l = omega arith
+
+-- every row is so: what the laws of a filter ask
 pub record Light (L N : ℕ) (F : Table) : Type 0 where
-  pub at : (n t : ℕ) → Fair L N (denominator F (rowAt F n t)) (norm (earlier F t + 1 + later F n t) (rowWeight F (rowAt F n t)))
+  pub at : (b a : ℕ) → b ≤ F .side → a ≤ F .side → Fair L N (denominator F (rowFor F b a)) (norm (b + 1 + a) (rowWeight F (rowFor F b a)))
 
 pub light-rows : (F : Table) (L N : ℕ) → ((r : ℕ) → r < 2 * F .side + 1 → Fair L N (denominator F r) (norm (2 * F .side + 1) (rowWeight F r))) → Light L N F
 light-rows F L N h = record {
-  at = λ n t. let f = h (rowAt F n t) (row-in F n t) in
-      record { positive = f .positive; divides = f .divides; light = le-trans (mul-le-mul-right 1000 (sumN-upto _ (2 * F .side + 1) _ (weights-in F n t))) (f .light) };
+  at = λ b a i j. let f = h (rowFor F b a) (row-in F b a i) in
+      record { positive = f .positive; divides = f .divides; light = le-trans (mul-le-mul-right 1000 (sumN-upto (b + 1 + a) (2 * F .side + 1) _ (omega arith))) (f .light) };
 }
 
 -- by the test of a norm, and by that of non-negative weights that sum to one

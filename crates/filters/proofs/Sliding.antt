@@ -1,9 +1,9 @@
 -- The sum of 2×12 slides: from one place to the next two values leave it and two come in.
 use mathlib.Core.Path.{_≡_, refl, sym, ap, ap₂, _∙_}
+use mathlib.Core.Logic.{inl}
 use mathlib.Core.List.{List}
 use Prim.Native.Nat.{ℕ, suc, _+_, _*_, _-_, _≤_, _<_}
 use native.Mathlib.Omega.{arith}
-use lib.ListN.{length}
 use lib.IntN.{ℤ, pos, negsuc, negℤ, _+ℤ_, _-ℤ_, _*ℤ_}
 use Rattle.integers.proofs.Differences.{rep, ringℤ}
 use Rattle.integers.specs.Sizes.{_within_}
@@ -12,12 +12,11 @@ use Rattle.integers.specs.Rounding.{toGrain}
 use Rattle.integers.specs.Sums.{sumZ, sumN, wsum}
 use Rattle.integers.proofs.SumLaws.{sum-same, wsum-within}
 use Rattle.rows.specs.Table.{rowWeight, denominator}
-use Rattle.filters.specs.Filter.{dot, valueAt}
+use Rattle.filters.specs.Filter.{dot, rowFor, weightedSum, byRow, earlier, later, valueAt}
 use Rattle.rows.specs.MeanRows.{row2x12}
 use Rattle.rows.specs.FilterTables.{table2x12}
-use Rattle.filters.specs.Contracts.{largest, Filterable, sum2x12}
-use Rattle.filters.proofs.Window.{middle-serves, value-is}
-use Rattle.filters.proofs.Stored.{readable2x12}
+use Rattle.filters.specs.Contracts.{largest, sum2x12}
+use Rattle.filters.proofs.Stretches.{count-is}
 
 once : (z : ℤ) → pos 1 *ℤ z ≡ z
 once (pos b) = let e : 1 * b ≡ b = omega arith in ap pos e
@@ -55,14 +54,26 @@ next-is x i h =
     (ap₂ _-ℤ_ (also (at (i + 11) (i - 1 + 12) (omega arith)) (at (i + 12) (i - 1 + 13) (omega arith))) (also (at (i - 1) (i - 1 + 0) (omega arith)) (at i (i - 1 + 1) (omega arith))))
     ∙ chain-slides g ∙ sym (sum-is x i (λ k. i - 1 + (k + 1)) (λ k. omega arith))
 
-pub sum-small : (x : List ℤ) (i : ℕ) → Filterable x → sum2x12 x i within (24 * largest)
+pub sum-small : (x : List ℤ) (i : ℕ) → ((t : ℕ) → i ≤ t → t ≤ i + 12 → (x ‼ t) within largest) → sum2x12 x i within (24 * largest)
 unfolding sum2x12 dot sumN
-sum-small x i s = wsum-within 13 (λ k. row2x12 ‼ (0 + k)) (λ k. x ‼ (i + k * 1)) largest (λ k l. s .small .at (i + k * 1))
+sum-small x i s = wsum-within 13 (λ k. row2x12 ‼ (0 + k)) (λ k. x ‼ (i + k * 1)) largest (λ k l. s (i + k * 1) (omega arith) (omega arith))
+
+-- six values on each side
+six-earlier : (first i : ℕ) → first ≤ i → earlier table2x12 first (i + 6) ≡ 6
+unfolding earlier table2x12
+six-earlier first i l = sym (count-is 1 6 (i + 6 - first) 6 (omega arith) (omega arith) (omega arith) (inl refl))
+
+six-later : (past i : ℕ) → i + 12 < past → later table2x12 past (i + 6) ≡ 6
+unfolding later table2x12
+six-later past i l = sym (count-is 1 6 (past - 1 - (i + 6)) 6 (omega arith) (omega arith) (omega arith) (inl refl))
 
 -- the filter's value with six on each side is that sum in 24ths
-pub value-2x12 : (x : List ℤ) (i : ℕ) {z : ℤ} → Filterable x → i + 12 < length x → z ≡ toGrain (sum2x12 x i) 24 → z ≡ valueAt table2x12 x (i + 6)
-unfolding sum2x12 dot table2x12 rowWeight denominator
-value-2x12 x i s l e =
+by-middle-row : (x : List ℤ) (i : ℕ) → byRow table2x12 6 6 x (i + 6) ≡ toGrain (sum2x12 x i) 24
+unfolding sum2x12 table2x12 rowWeight denominator byRow weightedSum rowFor
+by-middle-row x i =
     let from : i + 6 - 6 * 1 ≡ i = omega arith in
-    value-is table2x12 x (i + 6) 6 6 (record { readable = readable2x12; filterable = s }) (middle-serves table2x12 (length x) readable2x12 (omega arith) .each (i + 6) (omega arith) (omega arith)) 24
-    (ap (λ (j : ℕ). dot 13 (λ k. row2x12 ‼ (0 + k)) x j 1) (sym from)) refl e
+    ap (λ (j : ℕ). toGrain (dot 13 (λ k. row2x12 ‼ (0 + k)) x j 1) 24) from
+
+pub value-2x12 : (first past : ℕ) (x : List ℤ) (i : ℕ) {z : ℤ} → first ≤ i → i + 12 < past → z ≡ toGrain (sum2x12 x i) 24 → z ≡ valueAt table2x12 first past x (i + 6)
+unfolding valueAt
+value-2x12 first past x i l m e = e ∙ sym (ap₂ (λ (b a : ℕ). byRow table2x12 b a x (i + 6)) (six-earlier first i l) (six-later past i m) ∙ by-middle-row x i)

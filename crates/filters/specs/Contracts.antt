@@ -1,16 +1,18 @@
 -- What the code of the filters asks of its arguments. Nothing here is promised to a caller of the desk.
-use mathlib.Core.Path.{_≡_}
+use mathlib.Core.Bool.{cond}
 use mathlib.Core.List.{List}
-use Prim.Native.Nat.{ℕ, _+_, _*_, _-_, _≤_, _<_, min}
+use Prim.Native.Nat.{ℕ, _+_, _*_, _-_, _/_, _≤_, _<_, min}
+use lib.Dec.{eqb}
 use lib.ListN.{length}
 use lib.IntN.{ℤ}
+use Rattle.integers.specs.Sizes.{_within_}
 use Rattle.integers.specs.Lists.{_‼_, AllWithin}
 use Rattle.integers.specs.Sums.{norm}
 use Rattle.refusals.specs.Limits.{mostMonths, monthsOfYear}
 use Rattle.rows.specs.declared.Shape.{Shape}
 use Rattle.rows.specs.Table.{Table, rowWeight}
 use Rattle.rows.specs.MeanRows.{row2x12}
-use Rattle.filters.specs.Filter.{earlier, later, dot}
+use Rattle.filters.specs.Filter.{dot, byRow}
 
 -- no number that is filtered is larger; times the largest norm it is a numerator that can be rounded
 abbrev pub largest : ℕ
@@ -38,20 +40,35 @@ mostWidth = 2 * mostSide + 1
 abbrev pub tableOf : Shape → List ℤ → Table
 tableOf f rows = record { side = f .side; step = f .step; width = f .width; rows = rows; middle = f .middle; ends = f .ends }
 
+-- a table with `side` values on each side, rows as wide, and these denominators
+abbrev pub tableWith : ℕ → ℕ → ℕ → ℕ → List ℤ → Table
+tableWith side step middle ends rows = record { side = side; step = step; width = 2 * side + 1; rows = rows; middle = middle; ends = ends }
+
+-- METHOD 2.3: a seasonal filter, whose values stand twelve months apart and whose rows have one denominator
+abbrev pub runTable : ℕ → ℕ → List ℤ → Table
+runTable side over rows = tableWith side monthsOfYear over over rows
+
 -- m weights from `at` on, and the values that they meet
 pub record Dots (w : List ℤ) (at m : ℕ) (x : List ℤ) (from step : ℕ) : Type 0 where
   pub room : at + m ≤ length w
   pub light : norm m (λ k. w ‼ (at + k)) ≤ largestNorm
   pub places : (k : ℕ) → k < m → from + k * step < length x
-  pub small : AllWithin largest x
+  pub small : (k : ℕ) → k < m → (x ‼ (from + k * step)) within largest
 
 -- a series that can be filtered
 pub record Filterable (x : List ℤ) : Type 0 where
   pub short : length x ≤ mostMonths
   pub small : AllWithin largest x
 
+-- a slice whose months from `first` to below `past` can be filtered; what stands outside these is not looked at
+pub record FilterableMonths (first past : ℕ) (x : List ℤ) : Type 0 where
+  pub short : length x ≤ mostMonths
+  pub inside : past ≤ length x
+  pub small : (t : ℕ) → first ≤ t → t < past → (x ‼ t) within largest
+
 -- a table that can be read
 pub record Readable (F : Table) : Type 0 where
+  pub side-least : 1 ≤ F .side
   pub side-most : F .side ≤ mostSide
   pub step-least : 1 ≤ F .step
   pub step-most : F .step ≤ mostStep
@@ -63,30 +80,63 @@ pub record Readable (F : Table) : Type 0 where
   pub middle-most : F .middle ≤ largestOver
   pub ends-most : F .ends ≤ largestOver
 
--- a table and a series that it can filter
-pub record Filters (F : Table) (x : List ℤ) : Type 0 where
-  pub readable : Readable F
-  pub filterable : Filterable x
+-- place t has b values before it and a after it, no more than a row takes, and none of those that the row meets is too large
+pub record Served (F : Table) (b a t : ℕ) (x : List ℤ) : Type 0 where
+  pub few-before : b ≤ F .side
+  pub few-after : a ≤ F .side
+  pub before : b * F .step ≤ t
+  pub after : t + a * F .step < length x
+  pub small : (i : ℕ) → t ≤ i + b * F .step → i ≤ t + a * F .step → (x ‼ i) within largest
 
--- place t of n has so many values before and after it that a row can take
-pub record Served (F : Table) (n b a t : ℕ) : Type 0 where
-  pub place : t < n
-  pub earlier-is : b ≡ earlier F t
-  pub later-is : a ≡ later F n t
-
--- each place from lo to below hi has so many
-pub record Serves (F : Table) (n b a lo hi : ℕ) : Type 0 where
+-- so has each place from lo to below hi
+pub record Serves (F : Table) (b a lo hi : ℕ) (x : List ℤ) : Type 0 where
   pub order : lo ≤ hi
-  pub inside : hi ≤ n
-  pub each : (t : ℕ) → lo ≤ t → t < hi → Served F n b a t
+  pub few-before : b ≤ F .side
+  pub few-after : a ≤ F .side
+  pub before : b * F .step ≤ lo
+  pub after : hi + a * F .step ≤ length x
+  pub small : (i : ℕ) → lo ≤ i + b * F .step → i < hi + a * F .step → (x ‼ i) within largest
 
--- `side` rows from `row` on serve `step` places each, from place `at` on
-pub record ServeInTurn (F : Table) (n row at : ℕ) : Type 0 where
-  pub rows : row ≤ F .side + 1
-  pub inside : at + F .side * F .step ≤ n
-  pub each : (k : ℕ) → k < F .side
-      → Serves F n (min (row + k) (F .side)) (min (2 * F .side - (row + k)) (F .side)) (at + k * F .step) (at + k * F .step + F .step)
+-- how many values row r takes before and after the present one
+unfoldable pub rowBefore : Table → ℕ → ℕ
+rowBefore F r = min r (F .side)
+
+unfoldable pub rowAfter : Table → ℕ → ℕ
+rowAfter F r = min (2 * F .side - r) (F .side)
+
+-- rows in turn from `row` on, each for `each` places, from place `at` on: the value at place t
+unfoldable pub inTurn : Table → ℕ → ℕ → ℕ → List ℤ → ℕ → ℤ
+inTurn F row at each x t =
+    let r = row + (t - at) / each in
+    byRow F (rowBefore F r) (rowAfter F r) x t
+
+-- `count` rows can be taken so
+pub record ServeInTurn (F : Table) (row count at each : ℕ) (x : List ℤ) : Type 0 where
+  pub rows : row + count ≤ 2 * F .side + 1
+  pub inside : at + count * each ≤ length x
+  pub serves : (k : ℕ) → k < count → Serves F (rowBefore F (row + k)) (rowAfter F (row + k)) (at + k * each) (at + k * each + each) x
+
+-- a table of rows and a slice whose months from `first` to below `past` it can filter: they are enough for its rows
+pub record FiltersMonths (F : Table) (first past : ℕ) (x : List ℤ) : Type 0 where
+  pub readable : Readable F
+  pub enough : first + 2 * (F .side * F .step) ≤ past
+  pub filterable : FilterableMonths first past x
+
+-- how many rows from `row` on serve as many months each: those before the middle one, that one, those after it
+unfoldable pub alike : ℕ → ℕ → ℕ
+alike side row = cond (eqb row side) 1 side
+
+-- and how many months each of them serves from month lo on: a step of them, the middle row all that are left but those of the rows after it
+unfoldable pub monthsEach : ℕ → ℕ → ℕ → ℕ → ℕ → ℕ
+monthsEach side step row lo past = cond (eqb row side) (past - side * step - lo) step
 
 -- the weighted sum of 2×12 over the thirteen values from place i on
 unfoldable pub sum2x12 : List ℤ → ℕ → ℤ
 sum2x12 x i = dot 13 (λ k. row2x12 ‼ (0 + k)) x i 1
+
+-- the values that leave this sum and come in from place i - 1 to place i
+pub record Slides (x : List ℤ) (i : ℕ) : Type 0 where
+  pub back : 1 ≤ i
+  pub inside : i + 12 < length x
+  pub short : length x ≤ mostMonths
+  pub small : (t : ℕ) → i ≤ t + 1 → t ≤ i + 12 → (x ‼ t) within largest

@@ -9,11 +9,12 @@ ghost use Rattle.integers.specs.Lists.{_‼_};
 ghost use Rattle.integers.specs.Rounding.{toGrain};
 ghost use Rattle.integers.specs.Filling.{Filled};
 ghost use Rattle.integers.specs.Contracts.{largestNumerator};
+ghost use Rattle.refusals.specs.Limits.{mostMonths};
 ghost use Rattle.rows.specs.Table.{denominator};
 ghost use Rattle.rows.specs.declared.Terms.the-variants.{Nine, Thirteen, TwentyThree};
 ghost use Rattle.rows.specs.FilterTables.{table2x12, table3x3, table3x5, tableHenderson};
-ghost use Rattle.filters.specs.Filter.{dot, valueAt, filter, inside};
-ghost use Rattle.filters.specs.Contracts.{tableOf, largestOver, Dots, Filterable, Served, Serves, ServeInTurn, Filters, sum2x12};
+ghost use Rattle.filters.specs.Filter.{dot, byRow, valueAt, filter};
+ghost use Rattle.filters.specs.Contracts.{tableOf, tableWith, runTable, largestOver, Dots, Filterable, FilterableMonths, Readable, Served, Serves, inTurn, ServeInTurn, FiltersMonths, alike, monthsEach, Slides, sum2x12};
 use rows::Shape;
 use rows::Terms;
 use rows::henderson_9::ROWS_HENDERSON_9;
@@ -66,8 +67,8 @@ fn denominator(f: Shape, row: usize) -> usize
 
 // The filter's value at place t by the row for so many values before and after it.
 fn by_row(f: Shape, rows: &[i64], x: &[i64], earlier: usize, later: usize, t: usize) -> i64
-    requires { ⌜ Filters (tableOf f (now rows)) (now x) × Served (tableOf f (now rows)) (length (now x)) earlier later t ⌝ }
-    ensures { λ r. ⌜ r ≡ valueAt (tableOf f (now (rows .entry))) (now (x .entry)) t ⌝ }
+    requires { ⌜ Readable (tableOf f (now rows)) × Served (tableOf f (now rows)) earlier later t (now x) × (length (now x) ≤ mostMonths) ⌝ }
+    ensures { λ r. ⌜ r ≡ byRow (tableOf f (now (rows .entry))) earlier later (now (x .entry)) t ⌝ }
 {
     let row = earlier + (f.side - later);
     let first = t - earlier * f.step;
@@ -86,71 +87,172 @@ fn fill_row(
     hi: usize,
     out: &mut [i64],
 )
-    requires { ⌜ Filters (tableOf f (now rows)) (now x) × Serves (tableOf f (now rows)) (length (now x)) earlier later lo hi
-        × (length (now out) ≡ length (now x)) ⌝ }
-    ensures { λ _. ⌜ Filled (pos 0) (valueAt (tableOf f (now (rows .entry))) (now (x .entry))) lo hi (now (out .entry)) (now (out .exit)) ⌝ }
+    requires { ⌜ Readable (tableOf f (now rows)) × Serves (tableOf f (now rows)) earlier later lo hi (now x)
+        × (length (now x) ≤ mostMonths) × (length (now out) ≡ length (now x)) ⌝ }
+    ensures { λ _. ⌜ Filled (pos 0) (byRow (tableOf f (now (rows .entry))) earlier later (now (x .entry))) lo hi (now (out .entry)) (now (out .exit)) ⌝ }
 {
     for t in lo..hi {
         out[t] = by_row(f, rows, x, earlier, later, t);
     }
 }
 
-// The filter by `side` rows in turn, the first of them `row`, from place `at` on: each serves `step` places.
-fn fill_rows(f: Shape, rows: &[i64], x: &[i64], row: usize, at: usize, out: &mut [i64])
-    requires { ⌜ Filters (tableOf f (now rows)) (now x) × ServeInTurn (tableOf f (now rows)) (length (now x)) row at
-        × (length (now out) ≡ length (now x)) ⌝ }
-    ensures { λ _. ⌜ Filled (pos 0) (valueAt (tableOf f (now (rows .entry))) (now (x .entry))) at (at + f .side * f .step)
+// The filter by `count` rows in turn, the first of them `row`, from place `at` on: each serves `each` places.
+fn fill_rows(
+    f: Shape,
+    rows: &[i64],
+    x: &[i64],
+    row: usize,
+    count: usize,
+    at: usize,
+    each: usize,
+    out: &mut [i64],
+)
+    requires { ⌜ Readable (tableOf f (now rows)) × ServeInTurn (tableOf f (now rows)) row count at each (now x)
+        × (length (now x) ≤ mostMonths) × (length (now out) ≡ length (now x)) ⌝ }
+    ensures { λ _. ⌜ Filled (pos 0) (inTurn (tableOf f (now (rows .entry))) row at each (now (x .entry))) at (at + count * each)
         (now (out .entry)) (now (out .exit)) ⌝ }
 {
-    for k in 0..f.side {
+    for k in 0..count {
         let earlier = least(row + k, f.side);
         let later = least(2 * f.side - (row + k), f.side);
-        let lo = at + k * f.step;
-        fill_row(f, rows, x, earlier, later, lo, lo + f.step, out);
+        let lo = at + k * each;
+        fill_row(f, rows, x, earlier, later, lo, lo + each, out);
     }
+}
+
+// How many rows from `row` on serve as many months each: those before the middle one, that one, those after it.
+fn alike(side: usize, row: usize) -> usize
+    ensures { λ r. ⌜ r ≡ alike side row ⌝ }
+{
+    if row == side { 1 } else { side }
+}
+
+// How many months each of them serves from month lo on: a step of them, the middle row all that are left but those of the rows after it.
+fn months_each(side: usize, step: usize, row: usize, lo: usize, past: usize) -> usize
+    requires { ⌜ (lo + side * step ≤ past) × (past ≤ mostMonths) ⌝ }
+    ensures { λ r. ⌜ r ≡ monthsEach side step row lo past ⌝ }
+{
+    if row == side {
+        past - side * step - lo
+    } else {
+        step
+    }
+}
+
+// METHOD 2.1: the filter at each month t from `first` to below `past`, the months that the table in x has. The rest of out stays. The shape passes
+// as numbers, which the compiler then knows (docs/DECISIONS.md, 24).
+fn fill_months(
+    side: usize,
+    step: usize,
+    middle: usize,
+    ends: usize,
+    rows: &[i64],
+    first: usize,
+    past: usize,
+    x: &[i64],
+    out: &mut [i64],
+)
+    requires { ⌜ FiltersMonths (tableWith side step middle ends (now rows)) first past (now x) × (length (now out) ≡ length (now x)) ⌝ }
+    ensures { λ _. ⌜ Filled (pos 0) (valueAt (tableWith side step middle ends (now (rows .entry))) first past (now (x .entry))) first past
+        (now (out .entry)) (now (out .exit)) ⌝ }
+{
+    let f = Shape {
+        side: side,
+        step: step,
+        width: 2 * side + 1,
+        middle: middle,
+        ends: ends,
+    };
+    let mut row = 0;
+    let mut lo = first;
+    while row <= 2 * side {
+        let count = alike(side, row);
+        let each = months_each(side, step, row, lo, past);
+        fill_rows(f, rows, x, row, count, lo, each, out);
+        row += count;
+        lo += count * each;
+    }
+}
+
+// METHOD 2.3: the month-run step. At each month t from `first` to below `past` out gets the rounded sum of the values at t and whole twelves away
+// within these months, read where they stand in x, by the row for so many before and after. Nothing else is written.
+fn month_runs(
+    side: usize,
+    over: usize,
+    rows: &[i64],
+    first: usize,
+    past: usize,
+    x: &[i64],
+    out: &mut [i64],
+)
+    requires { ⌜ FiltersMonths (runTable side over (now rows)) first past (now x) × (length (now out) ≡ length (now x)) ⌝ }
+    ensures { λ _. ⌜ Filled (pos 0) (valueAt (runTable side over (now (rows .entry))) first past (now (x .entry))) first past
+        (now (out .entry)) (now (out .exit)) ⌝ }
+{
+    fill_months(
+        side,
+        refusals::MONTHS_OF_YEAR,
+        over,
+        over,
+        rows,
+        first,
+        past,
+        x,
+        out,
+    );
 }
 
 // The weighted sum of 2x12 over the thirteen values from place i on, from that of the place before: two values leave and two come in.
 fn next_sum(sum: i64, x: &[i64], i: usize) -> i64
-    requires { ⌜ Filterable (now x) × (1 ≤ i) × (i + 12 < length (now x)) × (sum ≡ sum2x12 (now x) (i - 1)) ⌝ }
+    requires { ⌜ Slides (now x) i × (sum ≡ sum2x12 (now x) (i - 1)) ⌝ }
     ensures { λ r. ⌜ r ≡ sum2x12 (now (x .entry)) i ⌝ }
 {
     sum + (x[i + 11] + x[i + 12] - (x[i - 1] + x[i]))
 }
 
-// METHOD 2.2: 2x12 at every place with six on each side: out[i] is that of place i + 6. Its row is read for the first of them.
-pub fn two_by_twelve(x: &[i64], out: &mut [i64])
-    requires { ⌜ Filterable (now x) × (13 ≤ length (now x)) × (length (now out) + 12 ≡ length (now x)) ⌝ }
-    ensures { λ _. ⌜ now (out .exit) ≡ inside table2x12 (now (x .entry)) ⌝ }
+// METHOD 2.2: 2x12 at the months with six on each side, of a table that has those from `first` to below `past`. Its row is read for the first of them.
+pub fn two_by_twelve(first: usize, past: usize, x: &[i64], out: &mut [i64])
+    requires { ⌜ FilterableMonths first past (now x) × (first + 13 ≤ past) × (length (now out) ≡ length (now x)) ⌝ }
+    ensures { λ _. ⌜ Filled (pos 0) (valueAt table2x12 first past (now (x .entry))) (first + 6) (past - 6) (now (out .entry)) (now (out .exit)) ⌝ }
 {
-    let mut sum = dot(&ROW_2X12, 0, 13, x, 0, 1);
-    out[0] = rounded(sum, 24);
-    for i in 1..out.len() {
-        sum = next_sum(sum, x, i);
-        out[i] = rounded(sum, 24);
+    let mut sum = dot(&ROW_2X12, 0, 13, x, first, 1);
+    out[first + 6] = rounded(sum, 24);
+    for t in first + 7..past - 6 {
+        sum = next_sum(sum, x, t - 6);
+        out[t] = rounded(sum, 24);
     }
 }
 
-// METHOD 2.3: 3x3 of each month's run, read at stride twelve.
-pub fn three_by_three(x: &[i64], out: &mut [i64])
-    requires { ⌜ Filterable (now x) × (48 ≤ length (now x)) × (length (now out) ≡ length (now x)) ⌝ }
-    ensures { λ _. ⌜ now (out .exit) ≡ filter table3x3 (now (x .entry)) ⌝ }
+// METHOD 2.3: 3x3 of each month's run.
+pub fn three_by_three(first: usize, past: usize, x: &[i64], out: &mut [i64])
+    requires { ⌜ FilterableMonths first past (now x) × (first + 48 ≤ past) × (length (now out) ≡ length (now x)) ⌝ }
+    ensures { λ _. ⌜ Filled (pos 0) (valueAt table3x3 first past (now (x .entry))) first past (now (out .entry)) (now (out .exit)) ⌝ }
 {
-    let e = x.len() - 24;
-    fill_rows(SHAPE_3X3, &ROWS_3X3, x, 0, 0, out);
-    fill_row(SHAPE_3X3, &ROWS_3X3, x, 2, 2, 24, e, out);
-    fill_rows(SHAPE_3X3, &ROWS_3X3, x, 3, e, out);
+    month_runs(
+        SHAPE_3X3.side,
+        SHAPE_3X3.ends,
+        &ROWS_3X3,
+        first,
+        past,
+        x,
+        out,
+    );
 }
 
-// METHOD 2.4: 3x5 of each month's run, read at stride twelve.
-pub fn three_by_five(x: &[i64], out: &mut [i64])
-    requires { ⌜ Filterable (now x) × (72 ≤ length (now x)) × (length (now out) ≡ length (now x)) ⌝ }
-    ensures { λ _. ⌜ now (out .exit) ≡ filter table3x5 (now (x .entry)) ⌝ }
+// METHOD 2.4: 3x5 of each month's run.
+pub fn three_by_five(first: usize, past: usize, x: &[i64], out: &mut [i64])
+    requires { ⌜ FilterableMonths first past (now x) × (first + 72 ≤ past) × (length (now out) ≡ length (now x)) ⌝ }
+    ensures { λ _. ⌜ Filled (pos 0) (valueAt table3x5 first past (now (x .entry))) first past (now (out .entry)) (now (out .exit)) ⌝ }
 {
-    let e = x.len() - 36;
-    fill_rows(SHAPE_3X5, &ROWS_3X5, x, 0, 0, out);
-    fill_row(SHAPE_3X5, &ROWS_3X5, x, 3, 3, 36, e, out);
-    fill_rows(SHAPE_3X5, &ROWS_3X5, x, 4, e, out);
+    month_runs(
+        SHAPE_3X5.side,
+        SHAPE_3X5.ends,
+        &ROWS_3X5,
+        first,
+        past,
+        x,
+        out,
+    );
 }
 
 // Henderson's 9 terms, with Musgrave's ends.
@@ -158,10 +260,18 @@ fn henderson_9(x: &[i64], out: &mut [i64])
     requires { ⌜ Filterable (now x) × (8 ≤ length (now x)) × (length (now out) ≡ length (now x)) ⌝ }
     ensures { λ _. ⌜ now (out .exit) ≡ filter (tableHenderson Nine) (now (x .entry)) ⌝ }
 {
-    let e = x.len() - 4;
-    fill_rows(SHAPE_HENDERSON_9, &ROWS_HENDERSON_9, x, 0, 0, out);
-    fill_row(SHAPE_HENDERSON_9, &ROWS_HENDERSON_9, x, 4, 4, 4, e, out);
-    fill_rows(SHAPE_HENDERSON_9, &ROWS_HENDERSON_9, x, 5, e, out);
+    let n = x.len();
+    fill_months(
+        SHAPE_HENDERSON_9.side,
+        SHAPE_HENDERSON_9.step,
+        SHAPE_HENDERSON_9.middle,
+        SHAPE_HENDERSON_9.ends,
+        &ROWS_HENDERSON_9,
+        0,
+        n,
+        x,
+        out,
+    );
 }
 
 // Henderson's 13 terms, with Musgrave's ends.
@@ -169,10 +279,18 @@ fn henderson_13(x: &[i64], out: &mut [i64])
     requires { ⌜ Filterable (now x) × (12 ≤ length (now x)) × (length (now out) ≡ length (now x)) ⌝ }
     ensures { λ _. ⌜ now (out .exit) ≡ filter (tableHenderson Thirteen) (now (x .entry)) ⌝ }
 {
-    let e = x.len() - 6;
-    fill_rows(SHAPE_HENDERSON_13, &ROWS_HENDERSON_13, x, 0, 0, out);
-    fill_row(SHAPE_HENDERSON_13, &ROWS_HENDERSON_13, x, 6, 6, 6, e, out);
-    fill_rows(SHAPE_HENDERSON_13, &ROWS_HENDERSON_13, x, 7, e, out);
+    let n = x.len();
+    fill_months(
+        SHAPE_HENDERSON_13.side,
+        SHAPE_HENDERSON_13.step,
+        SHAPE_HENDERSON_13.middle,
+        SHAPE_HENDERSON_13.ends,
+        &ROWS_HENDERSON_13,
+        0,
+        n,
+        x,
+        out,
+    );
 }
 
 // Henderson's 23 terms, with Musgrave's ends.
@@ -180,19 +298,18 @@ fn henderson_23(x: &[i64], out: &mut [i64])
     requires { ⌜ Filterable (now x) × (22 ≤ length (now x)) × (length (now out) ≡ length (now x)) ⌝ }
     ensures { λ _. ⌜ now (out .exit) ≡ filter (tableHenderson TwentyThree) (now (x .entry)) ⌝ }
 {
-    let e = x.len() - 11;
-    fill_rows(SHAPE_HENDERSON_23, &ROWS_HENDERSON_23, x, 0, 0, out);
-    fill_row(
-        SHAPE_HENDERSON_23,
+    let n = x.len();
+    fill_months(
+        SHAPE_HENDERSON_23.side,
+        SHAPE_HENDERSON_23.step,
+        SHAPE_HENDERSON_23.middle,
+        SHAPE_HENDERSON_23.ends,
         &ROWS_HENDERSON_23,
+        0,
+        n,
         x,
-        11,
-        11,
-        11,
-        e,
         out,
     );
-    fill_rows(SHAPE_HENDERSON_23, &ROWS_HENDERSON_23, x, 12, e, out);
 }
 
 // METHOD 2.5 and 2.6: Henderson's filter of so many terms, with Musgrave's ends.

@@ -80,6 +80,14 @@ module _ {A : Type 0} {d : A} {f : ℕ → A} where
       at k i m (yes n) = q .here k n m ∙ e k n m
       at k i m (no n) = q .rest k (inl (omega arith)) ∙ p .here k i (omega arith)
 
+  -- filled by a function that agrees there
+  pub filled-as : {g : ℕ → A} {lo hi : ℕ} {old new : List A} → Filled d g lo hi old new → ((k : ℕ) → lo ≤ k → k < hi → g k ≡ f k) → Filled d f lo hi old new
+  filled-as p e = record { long = p .long; here = λ k l m. p .here k l m ∙ e k l m; rest = p .rest }
+
+  -- filled twice at the same places: the later filling counts
+  pub filled-again : {g : ℕ → A} {lo hi : ℕ} {a b c : List A} → Filled d g lo hi a b → Filled d f lo hi b c → Filled d f lo hi a c
+  filled-again p q = record { long = q .long ∙ p .long; here = q .here; rest = λ k l. q .rest k l ∙ p .rest k l }
+
   -- the whole slice is filled
   pub filled-tab : {t n : ℕ} {old new : List A} → Filled d f 0 t old new → t ≡ n → length old ≡ n → new ≡ tab n f
   filled-tab {t} {n} {old} {new} p e l = tab-same d n f new (p .long ∙ l) (λ i h. p .here i (omega arith) (omega arith))

@@ -1,88 +1,181 @@
--- The rearrangements of a pass, place by place, h being half a year: all of it is linear in h.
-use mathlib.Core.Path.{_≡_, sym, ap, _∙_}
+-- The rearrangements of a pass, month by month, h being half a year: all of it is linear in h.
+use mathlib.Core.Path.{_≡_, sym, ap, ap₂, subst, subst⁻¹, _∙_}
+use mathlib.Core.Logic.{_⊎_, inl, inr, ⊎-elim}
 use mathlib.Core.List.{List}
 use Prim.Native.Nat.{ℕ, _+_, _*_, _-_, _≤_, _<_}
+use native.Mathlib.Decide.{decLe}
 use native.Mathlib.Omega.{arith}
-use lib.ListN.{length, take, drop, length-take, length-drop}
-use lib.Seq.{getD-take, getD-drop}
+use lib.ListN.{length, List·getD-eq-default}
+use lib.Seq.{ext-getD}
 use lib.IntN.{ℤ, pos, _-ℤ_}
-use Rattle.integers.specs.Lists.{_‼_, tab}
 use borrow.Author.Tests.{lt-ltb, le-ltb}
+use Rattle.integers.specs.Sizes.{_within_}
+use Rattle.integers.specs.Lists.{_‼_, tab, AllWithin}
 use Rattle.integers.specs.Filling.{Filled}
-use Rattle.integers.proofs.FillingLaws.{length-tab, at-tab, tab-same, filled-three}
-use Rattle.series.specs.Operations.{minus, pick}
-use Rattle.steps.specs.Places.{inner, nearestLevel, copied, widened}
-use Rattle.pass.specs.Contracts.{along, Along, Levels}
-
--- r less its level, as one difference of lists
-pub less-level-is : (h : ℕ) (r m : List ℤ) → tab (length r) (λ k. (r ‼ k) -ℤ (m ‼ nearestLevel h (length r) k)) ≡ minus r (pick (length r) (nearestLevel h (length r)) m)
-unfolding minus pick
-less-level-is h r m = tab-same (pos 0) (length r) _ _ (length-tab (length r) _)
-    (λ i l. at-tab (pos 0) (length r) _ i l ∙ ap (λ (z : ℤ). (r ‼ i) -ℤ z) (sym (at-tab (pos 0) (length r) (λ k. m ‼ nearestLevel h (length r) k) i l)))
+use Rattle.integers.proofs.SizeLaws.{by-abs}
+use Rattle.integers.proofs.FillingLaws.{length-tab, at-tab, tab-same, filled-on, filled-as}
+use Rattle.series.specs.Operations.{pick}
+use Rattle.series.proofs.Lengths.{length-minus, at-minus}
+use Rattle.rows.specs.Table.{Table}
+use Rattle.filters.specs.Filter.{valueAt, filter, reach}
+use Rattle.filters.proofs.Lengths.{length-filter}
+use Rattle.filters.proofs.ByMonth.{MonthsOf}
+use Rattle.steps.specs.Places.{inner, nearestMonth, copied, widened}
+use Rattle.steps.proofs.Lengths.{length-inner}
+use Rattle.steps.proofs.ByMonth.{inner-months, filter-by-month, level-by-month}
+use Rattle.pass.specs.Contracts.{along, LessAlong, Copies, Levels, withoutLevelAt, withoutLevel}
 
 -- ---- the level in three stretches: the first repeated, each in turn, the last repeated
-module _ {h : ℕ} {r m : List ℤ} (s : Levels h r m) where
-  pub first-levels : Along 0 0 0 h (length r) (length m)
-  unfolding along
-  first-levels = record { order = omega arith; inside = omega arith; each = λ t l u. omega arith }
+module _ (h first past t : ℕ) (long : first + (2 * h + 1) ≤ past) where
+  nearest-has : (first + h ≤ nearestMonth h first past t) × (nearestMonth h first past t < past - h)
+  unfolding nearestMonth
+  nearest-has = (omega arith, omega arith)
 
-  pub own-levels : Along 0 1 h (length r - h) (length r) (length m)
-  unfolding along
-  own-levels = record { order = omega arith; inside = omega arith; each = λ t l u. omega arith }
+  nearest-first : t < first + h → along (first + h) 0 first t ≡ nearestMonth h first past t
+  unfolding along nearestMonth
+  nearest-first u = omega arith
 
-  pub last-levels : Along (length r - (2 * h + 1)) 0 (length r - h) (length r) (length r) (length m)
-  unfolding along
-  last-levels = record { order = omega arith; inside = omega arith; each = λ t l u. omega arith }
+  nearest-own : first + h ≤ t → t < past - h → along (first + h) 1 (first + h) t ≡ nearestMonth h first past t
+  unfolding along nearestMonth
+  nearest-own l u = omega arith
 
-  pub level-filled : {old a b c : List ℤ} → length old ≡ length r → Filled (pos 0) (λ t. (r ‼ t) -ℤ (m ‼ along 0 0 0 t)) 0 h old a
-      → Filled (pos 0) (λ t. (r ‼ t) -ℤ (m ‼ along 0 1 h t)) h (length r - h) a b → Filled (pos 0) (λ t. (r ‼ t) -ℤ (m ‼ along (length r - (2 * h + 1)) 0 (length r - h) t)) (length r - h) (length r) b c
-      → c ≡ minus r (pick (length r) (nearestLevel h (length r)) m)
-  unfolding along nearestLevel
-  level-filled e u v w = filled-three u v w (omega arith) (omega arith) e
-      (λ k l. same k (omega arith)) (λ k l i. same k (omega arith)) (λ k l i. same k (omega arith))
-      ∙ less-level-is h r m
+  nearest-last : past - h ≤ t → along (past - (h + 1)) 0 (past - h) t ≡ nearestMonth h first past t
+  unfolding along nearestMonth
+  nearest-last l = omega arith
+
+module _ {h first past : ℕ} {r m : List ℤ} (s : Levels h first past r m) where
+  -- a stretch whose months go with the nearest
+  stretch : (i step lo hi : ℕ) → first ≤ lo → lo ≤ hi → hi ≤ past → ((t : ℕ) → lo ≤ t → t < hi → along i step lo t ≡ nearestMonth h first past t) → LessAlong i step lo hi r m
+  stretch i step lo hi l o u e = record {
+    order = o;
+    inside = omega (arith, s .inside);
+    short = s .short;
+    same = s .same;
+    each = λ t p q. omega (arith, e t p q, nearest-has h first past t (s .long), s .inside, s .same);
+    left = λ t p q. s .left t (omega arith) (omega arith);
+    right = λ t p q. let n = nearest-has h first past t (s .long) in s .right _ (omega (arith, e t p q, n)) (omega (arith, e t p q, n));
+  }
+
+  pub first-levels : LessAlong (first + h) 0 first (first + h) r m
+  first-levels = stretch _ _ _ _ (omega arith) (omega arith) (omega (arith, s .long)) (λ t l u. nearest-first h first past t (s .long) u)
+
+  pub own-levels : LessAlong (first + h) 1 (first + h) (past - h) r m
+  own-levels = stretch _ _ _ _ (omega arith) (omega (arith, s .long)) (omega arith) (λ t l u. nearest-own h first past t (s .long) l u)
+
+  pub last-levels : LessAlong (past - (h + 1)) 0 (past - h) past r m
+  last-levels = stretch _ _ _ _ (omega (arith, s .long)) (omega arith) (omega arith) (λ t l u. nearest-last h first past t (s .long) l)
+
+  pub levels-filled : {old a b c : List ℤ} → Filled (pos 0) (λ t. (r ‼ t) -ℤ (m ‼ along (first + h) 0 first t)) first (first + h) old a
+      → Filled (pos 0) (λ t. (r ‼ t) -ℤ (m ‼ along (first + h) 1 (first + h) t)) (first + h) (past - h) a b
+      → Filled (pos 0) (λ t. (r ‼ t) -ℤ (m ‼ along (past - (h + 1)) 0 (past - h) t)) (past - h) past b c
+      → Filled (pos 0) (λ t. (r ‼ t) -ℤ (m ‼ nearestMonth h first past t)) first past old c
+  levels-filled u v w =
+      filled-on (filled-on (filled-as u (λ t l i. same t (nearest-first h first past t (s .long) i)))
+      v (omega arith) (omega (arith, s .long)) (λ t l i. same t (nearest-own h first past t (s .long) l i)))
+      w (omega (arith, s .long)) (omega arith) (λ t l i. same t (nearest-last h first past t (s .long) l))
     where
       same : (t : ℕ) {i j : ℕ} → i ≡ j → (r ‼ t) -ℤ (m ‼ i) ≡ (r ‼ t) -ℤ (m ‼ j)
       same t e = ap (λ (k : ℕ). (r ‼ t) -ℤ (m ‼ k)) e
 
--- ---- all months from the inner ones in three stretches
+  -- where m is the filter by the rows F
+  pub without-levels : (F : Table) {m₀ old out : List ℤ} → Filled (pos 0) (valueAt F first past r) (first + h) (past - h) m₀ m
+      → Filled (pos 0) (λ t. (r ‼ t) -ℤ (m ‼ nearestMonth h first past t)) first past old out → Filled (pos 0) (withoutLevelAt h F first past r) first past old out
+  unfolding withoutLevelAt
+  without-levels F u v = filled-as v (λ t l i. let n = nearest-has h first past t (s .long) in ap (λ (z : ℤ). (r ‼ t) -ℤ z) (u .here _ (n .0) (n .1)))
+
+-- ---- all months from the inner ones: both ends are copied
+-- a month that is copied is not one of those that are filled
+pub copied-apart : {i lo hi n : ℕ} → Copies i lo hi n → (t : ℕ) → lo ≤ t → t < hi → (along i 1 lo t < lo) ⊎ (t ≤ along i 1 lo t)
+unfolding along
+copied-apart c t l u = ⊎-elim (λ p. inl (omega (arith, p))) (λ p. inr (omega (arith, p))) (c .apart)
+
 module _ (h n t : ℕ) where
-  copied-first : t < h → copied h n t ≡ t + h
-  unfolding copied
+  copied-first : t < h → h + copied h n t ≡ along (2 * h) 1 0 t
+  unfolding copied along
   copied-first l = rw (lt-ltb t h l) (omega arith)
 
-  copied-own : h ≤ t → t < n - h → copied h n t ≡ t - h
+  copied-own : h ≤ t → t < n - h → h + copied h n t ≡ t
   unfolding copied
-  copied-own l i = rw (le-ltb t h l, lt-ltb t (n - h) i)
+  copied-own l i = rw (le-ltb t h l, lt-ltb t (n - h) i) (omega arith)
 
-  copied-last : h ≤ t → n - h ≤ t → copied h n t ≡ t - 3 * h
-  unfolding copied
-  copied-last l i = rw (le-ltb t h l, le-ltb t (n - h) i) (omega arith)
+  copied-last : 4 * h ≤ n → n - h ≤ t → h + copied h n t ≡ along (n - 3 * h) 1 (n - h) t
+  unfolding copied along
+  copied-last l i = rw (le-ltb t h (omega arith), le-ltb t (n - h) i) (omega arith)
 
-module _ (h : ℕ) (s : List ℤ) (n : ℕ) (long : 2 * h ≤ length s) (more : length s + 2 * h ≡ n) where
-  pub first-copies : Along h 1 0 h n (length s)
-  unfolding along
-  first-copies = record { order = omega arith; inside = omega arith; each = λ t l u. omega arith }
+module _ (h n : ℕ) (long : 4 * h ≤ n) where
+  pub first-copies : Copies (2 * h) 0 h n
+  first-copies = record { order = omega arith; inside = omega arith; from = omega arith; apart = inr (omega arith) }
 
-  pub own-copies : Along 0 1 h (n - h) n (length s)
-  unfolding along
-  own-copies = record { order = omega arith; inside = omega arith; each = λ t l u. omega arith }
+  pub last-copies : Copies (n - 3 * h) (n - h) n n
+  last-copies = record { order = omega arith; inside = omega arith; from = omega arith; apart = inl (omega arith) }
 
-  pub last-copies : Along (n - 4 * h) 1 (n - h) n n (length s)
-  unfolding along
-  last-copies = record { order = omega arith; inside = omega arith; each = λ t l u. omega arith }
+  module _ {old a b : List ℤ} (e : length old ≡ n) (u : Filled (pos 0) (λ t. old ‼ along (2 * h) 1 0 t) 0 h old a)
+      (v : Filled (pos 0) (λ t. a ‼ along (n - 3 * h) 1 (n - h) t) (n - h) n a b) where
+    -- month t copies month i, one of the inner ones
+    copies : (t i : ℕ) → h + copied h n t ≡ i → i < n - h → old ‼ i ≡ inner h old ‼ copied h n t
+    copies t i q l = ap (λ (k : ℕ). old ‼ k) (sym q) ∙ sym (inner-months h old .same (copied h n t) (omega (arith, length-inner h old, e, q)))
 
-  pub copies-filled : {old a b c : List ℤ} → length old ≡ n → Filled (pos 0) (λ t. s ‼ along h 1 0 t) 0 h old a
-      → Filled (pos 0) (λ t. s ‼ along 0 1 h t) h (n - h) a b → Filled (pos 0) (λ t. s ‼ along (n - 4 * h) 1 (n - h) t) (n - h) n b c → c ≡ widened h s
-  unfolding along widened pick
-  copies-filled e u v w = rw more (filled-three u v w (omega arith) (omega arith) e
-      (λ k l. same (omega (arith, copied-first h n k l))) (λ k l i. same (omega (arith, copied-own h n k l i))) (λ k l i. same (omega (arith, copied-last h n k (omega arith) l))))
-    where
-      same : {i j : ℕ} → i ≡ j → s ‼ i ≡ s ‼ j
-      same e = ap (λ (k : ℕ). s ‼ k) e
+    copies-at : (t : ℕ) → t < n → Dec (h ≤ t) → Dec (n - h ≤ t) → b ‼ t ≡ inner h old ‼ copied h n t
+    unfolding along
+    copies-at t l (no p) q = v .rest t (inl (omega arith)) ∙ u .here t (omega arith) (omega arith) ∙ copies t _ (copied-first h n t (omega arith)) (omega arith)
+    copies-at t l (yes p) (no q) = v .rest t (inl (omega arith)) ∙ u .rest t (inr p) ∙ copies t t (copied-own h n t p (omega arith)) (omega arith)
+    copies-at t l (yes p) (yes q) = v .here t q l ∙ u .rest _ (inr (omega arith)) ∙ copies t _ (copied-last h n t long q) (omega arith)
 
--- the part of a slice from half a year to half a year before its end is its middle
-pub inner-is : (h : ℕ) (x : List ℤ) → 2 * h ≤ length x → take (length x - h - h) (drop h x) ≡ inner h x
-unfolding inner pick
-inner-is h x l = tab-same (pos 0) (length x - 2 * h) (λ i. x ‼ (i + h)) (take (length x - h - h) (drop h x)) (simp (length-take, length-drop) (omega arith))
-    (λ i u. getD-take (length x - h - h) (drop h x) i (pos 0) (omega arith) ∙ getD-drop h x i (pos 0) ∙ ap (λ (k : ℕ). x ‼ k) (omega arith))
+    pub copies-filled : b ≡ widened h (inner h old)
+    unfolding widened pick
+    copies-filled =
+        let k : length (inner h old) + 2 * h ≡ n = omega (arith, length-inner h old, e, long) in
+        rw k (tab-same (pos 0) n (λ t. inner h old ‼ copied h n t) b (omega (arith, u .long, v .long, e)) (λ t l. copies-at t l (decLe h t) (decLe (n - h) t)))
+
+-- ---- a table as a list and in a slice that has its months
+-- two lists of the same months
+same-months : {first past : ℕ} {l k y : List ℤ} → MonthsOf first past l y → MonthsOf first past k y → l ≡ k
+same-months {l = l} {k} p q = ext-getD (pos 0) l k (omega (arith, p .long, q .long)) (λ i u. p .same i u ∙ sym (q .same i (omega (arith, p .long, q .long))))
+
+-- the inner months; all months
+pub inner-is : {h n : ℕ} {l y : List ℤ} → length y ≡ n → MonthsOf h (n - h) l y → inner h y ≡ l
+inner-is {h} {n} {l} {y} e m = same-months (subst (λ (n : ℕ). MonthsOf h (n - h) (inner h y) y) e (inner-months h y)) m
+
+pub whole-months : {n : ℕ} (y : List ℤ) → length y ≡ n → MonthsOf 0 n y y
+whole-months y e = record { long = omega (arith, e); same = λ i u. let e : i ≡ 0 + i = omega arith in ap (λ (k : ℕ). y ‼ k) e }
+
+pub whole-is : {n : ℕ} {l y : List ℤ} → length y ≡ n → MonthsOf 0 n l y → y ≡ l
+whole-is {n} {l} {y} e m = same-months (whole-months y e) m
+
+-- the list of some months
+pub months-of : (first past : ℕ) (y : List ℤ) → MonthsOf first past (tab (past - first) (λ i. y ‼ (first + i))) y
+months-of first past y = let n = length-tab (past - first) (λ i. y ‼ (first + i)) in record { long = n; same = λ i u. at-tab (pos 0) (past - first) _ i (omega (arith, n)) }
+
+-- how large the numbers of the list are
+pub within-months : {b first past : ℕ} {l y : List ℤ} → MonthsOf first past l y → ((t : ℕ) → first ≤ t → t < past → (y ‼ t) within b) → AllWithin b l
+within-months {b} {first} {past} {l} {y} m h = record { at = λ i. at i (decLe (i + 1) (length l)) }
+  where
+    at : (i : ℕ) → Dec (i + 1 ≤ length l) → (l ‼ i) within b
+    at i (yes u) = subst⁻¹ (λ (z : ℤ). z within b) (m .same i (omega arith)) (h (first + i) (omega arith) (omega (arith, m .long)))
+    at i (no u) = subst⁻¹ (λ (z : ℤ). z within b) (List·getD-eq-default l (pos 0) (omega arith)) (by-abs (omega arith))
+
+-- a slice that is filled with the numbers of a list
+pub months-filled : {f : ℕ → ℤ} {first past : ℕ} {l old new : List ℤ} → length l ≡ past - first → Filled (pos 0) f first past old new
+    → ((t : ℕ) → first ≤ t → t < past → l ‼ (t - first) ≡ f t) → MonthsOf first past l new
+months-filled {f} {first} {past} {l} {old} {new} e u h = record {
+  long = e;
+  same = λ i p. let k : first + i - first ≡ i = omega arith in let q : first + i < past = omega (arith, e) in
+      ap (λ (j : ℕ). l ‼ j) (sym k) ∙ h (first + i) (omega arith) q ∙ sym (u .here (first + i) (omega arith) q);
+}
+
+module _ (F : Table) {first past : ℕ} {l y : List ℤ} (m : MonthsOf first past l y) where
+  -- filled with its filter
+  pub filter-months : {old new : List ℤ} → Filled (pos 0) (valueAt F first past y) first past old new → MonthsOf first past (filter F l) new
+  filter-months u = months-filled (length-filter F l ∙ m .long) u (filter-by-month F m)
+
+  -- filled with itself less its level
+  level-at : (h : ℕ) → reach F ≡ h → first + (2 * h + 1) ≤ past → (t : ℕ) → first ≤ t → t < past → withoutLevel h F l ‼ (t - first) ≡ withoutLevelAt h F first past y t
+  unfolding withoutLevelAt
+  level-at h r long t i j =
+      let e : first + (t - first) ≡ t = omega arith in
+      let u : t - first < length l = omega (arith, m .long) in
+      at-minus l _ (t - first) u ∙ ap₂ _-ℤ_ (m .same (t - first) u ∙ ap (λ (k : ℕ). y ‼ k) e) (level-by-month F m h r long t i j)
+
+  pub level-months : {h : ℕ} {old new : List ℤ} → reach F ≡ h → first + (2 * h + 1) ≤ past → Filled (pos 0) (withoutLevelAt h F first past y) first past old new
+      → MonthsOf first past (withoutLevel h F l) new
+  level-months {h} r long u = months-filled (length-minus l _ ∙ m .long) u (level-at h r long)

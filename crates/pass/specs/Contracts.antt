@@ -1,18 +1,20 @@
 -- What the code of a pass asks of its arguments, h being half a year, and leaves. Nothing here is promised to a caller of the desk.
 use mathlib.Core.Path.{_≡_}
+use mathlib.Core.Logic.{_⊎_}
 use mathlib.Core.List.{List}
 use Prim.Native.Nat.{ℕ, _+_, _*_, _-_, _≤_, _<_}
 use lib.ListN.{length}
-use lib.IntN.{ℤ}
-use Rattle.integers.specs.Lists.{AllWithin}
+use lib.IntN.{ℤ, _-ℤ_}
+use Rattle.integers.specs.Sizes.{_within_}
+use Rattle.integers.specs.Lists.{_‼_, AllWithin}
 use Rattle.rows.specs.Table.{Table}
-use Rattle.filters.specs.Filter.{inside}
-use Rattle.filters.specs.Contracts.{largest, Filterable}
+use Rattle.filters.specs.Filter.{valueAt, inside}
+use Rattle.filters.specs.Contracts.{largest, Filterable, FilterableMonths}
 use Rattle.series.specs.Contracts.{Minusable}
 use Rattle.series.specs.Operations.{minus, pick}
 use Rattle.refusals.specs.Limits.{mostMonths}
 use Rattle.steps.specs.Choices.{plainMonthly}
-use Rattle.steps.specs.Places.{nearestLevel}
+use Rattle.steps.specs.Places.{nearestMonth, nearestLevel}
 use Rattle.steps.specs.Steps.{T2, S2}
 
 -- no number of X is larger, in grains, and none of its T2: six and a half times as large
@@ -28,47 +30,58 @@ pub record PassSeries (h : ℕ) (x : List ℤ) : Type 0 where
   pub short : length x ≤ mostMonths
   pub small : AllWithin largestX x
 
--- a series and its 2×12 values, as many as have six places on each side
-pub record Levels (h : ℕ) (r m : List ℤ) : Type 0 where
-  pub long : 2 * h + 1 ≤ length r
-  pub short : length r ≤ mostMonths
-  pub fewer : length m + 2 * h ≡ length r
-  pub left : AllWithin largest r
-  pub right : AllWithin largest m
+-- work slices and a slice for the result, as long as the series
+pub record Work (x a b out : List ℤ) : Type 0 where
+  pub a-long : length a ≡ length x
+  pub b-long : length b ≡ length x
+  pub out-long : length out ≡ length x
 
--- r less its 2×12 values m, the nearest of them repeated at both ends
-abbrev pub lessLevels : ℕ → List ℤ → List ℤ → List ℤ
-lessLevels h r m = minus r (pick (length r) (nearestLevel h (length r)) m)
-
--- r less its level: its 2×12, by the rows F, with the first and the last value repeated at the ends
-abbrev pub withoutLevel : ℕ → Table → List ℤ → List ℤ
-withoutLevel h F r = lessLevels h r (inside F r)
-
--- a stretch of places from lo to below hi of n, and the place of another list, of k numbers, that each takes its number from: place i for lo,
--- and `step` places more for each further one
+-- a stretch of months from lo to below hi, and the month of another slice that each goes with: month i for lo, and `step` months more for each
+-- further one
 unfoldable pub along : ℕ → ℕ → ℕ → ℕ → ℕ
 along i step lo t = i + step * (t - lo)
 
-pub record Along (i step lo hi n k : ℕ) : Type 0 where
+-- such a stretch of r, and the months of m that are taken from it
+pub record LessAlong (i step lo hi : ℕ) (r m : List ℤ) : Type 0 where
+  pub order : lo ≤ hi
+  pub inside : hi ≤ length r
+  pub short : length r ≤ mostMonths
+  pub same : length m ≡ length r
+  pub each : (t : ℕ) → lo ≤ t → t < hi → along i step lo t < length m
+  pub left : (t : ℕ) → lo ≤ t → t < hi → (r ‼ t) within largest
+  pub right : (t : ℕ) → lo ≤ t → t < hi → (m ‼ along i step lo t) within largest
+
+-- such a stretch of n months, and the months of the same slice that it copies, which lie before it or after it
+pub record Copies (i lo hi n : ℕ) : Type 0 where
   pub order : lo ≤ hi
   pub inside : hi ≤ n
-  pub each : (t : ℕ) → lo ≤ t → t < hi → along i step lo t < k
+  pub from : i + (hi - lo) ≤ n
+  pub apart : (i + (hi - lo) ≤ lo) ⊎ (hi ≤ i)
 
--- the work slices of steps 1 to 4
-pub record Lent (h : ℕ) (x p q r out : List ℤ) : Type 0 where
-  pub p-long : length p + 2 * h ≡ length x
-  pub q-long : length q + 2 * h ≡ length x
-  pub r-long : length r + 4 * h ≡ length x
-  pub out-long : length out ≡ length x
+-- a table in r that has the months from `first` to below `past`, and in m its 2×12 values, at the months with h on each side
+pub record Levels (h first past : ℕ) (r m : List ℤ) : Type 0 where
+  pub long : first + (2 * h + 1) ≤ past
+  pub inside : past ≤ length r
+  pub short : length r ≤ mostMonths
+  pub same : length m ≡ length r
+  pub left : (t : ℕ) → first ≤ t → t < past → (r ‼ t) within largest
+  pub right : (t : ℕ) → first + h ≤ t → t < past - h → (m ‼ t) within largest
 
--- SI1 as it is filtered, five years at least, and the slices for its seasonal, that of all months in out
+-- month t of such a table less its level: its 2×12, by the rows F, with the first and the last value repeated at the ends
+unfoldable pub withoutLevelAt : ℕ → Table → ℕ → ℕ → List ℤ → ℕ → ℤ
+withoutLevelAt h F first past r t = (r ‼ t) -ℤ valueAt F first past r (nearestMonth h first past t)
+
+-- the same of a list, whose place 0 is the table's first month
+abbrev pub withoutLevel : ℕ → Table → List ℤ → List ℤ
+withoutLevel h F r = minus r (pick (length r) (nearestLevel h (length r)) (inside F r))
+
+-- SI1 as it is filtered, at its own months in a slice of six years at least, and the slices for its seasonal
 pub record OfSI1 (h : ℕ) (si r m out : List ℤ) : Type 0 where
-  pub filterable : Filterable si
-  pub long : 10 * h ≤ length si
+  pub filterable : FilterableMonths h (length si - h) si
+  pub long : 12 * h ≤ length si
   pub r-long : length r ≡ length si
-  pub m-long : length m + 2 * h ≡ length si
-  pub out-long : length si + 2 * h ≡ length out
-  pub out-short : length out ≤ mostMonths
+  pub m-long : length m ≡ length si
+  pub out-long : length out ≡ length si
 
 -- SI2 as it is filtered, six years at least, and the slices for its seasonal
 pub record OfSI2 (h : ℕ) (si r out : List ℤ) : Type 0 where
@@ -82,12 +95,6 @@ pub record Adjustable (x s : List ℤ) : Type 0 where
   pub long : 22 ≤ length x
   pub both : Minusable x s
   pub less : AllWithin largest (minus x s)
-
--- work slices and a slice for the result, as long as the series
-pub record Work (x a b out : List ℤ) : Type 0 where
-  pub a-long : length a ≡ length x
-  pub b-long : length b ≡ length x
-  pub out-long : length out ≡ length x
 
 -- what a pass leaves: T2 and S2 of x
 pub record PassDone (x t s : List ℤ) : Type 0 where

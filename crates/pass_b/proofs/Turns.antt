@@ -1,11 +1,12 @@
 -- What each call of pass B leaves is the next table of the rules, and is what the next call asks: SI1 is weighed and replaced, then SI2.
-use mathlib.Core.Path.{_≡_, refl, sym, ap, ap₂, _∙_}
+use mathlib.Core.Path.{_≡_, refl, sym, ap, ap₂, subst, _∙_}
 use mathlib.Core.List.{List}
 use Prim.Native.Nat.{ℕ, _*_, _-_, _≤_}
 use native.Mathlib.Omega.{arith}
-use lib.ListN.{length}
+use lib.ListN.{length, take, drop}
 use lib.IntN.{ℤ, pos, _-ℤ_}
 use Rattle.integers.proofs.Differences.{rep, ringℤ}
+use Rattle.integers.specs.Filling.{Filled}
 use Rattle.integers.specs.Lists.{_‼_, AllWithin}
 use Rattle.integers.proofs.FillingLaws.{tab-same}
 use Rattle.refusals.specs.Limits.{monthsOfYear}
@@ -14,18 +15,23 @@ use Rattle.series.specs.Contracts.{Minusable}
 use Rattle.series.proofs.Lengths.{length-minus, at-minus}
 use Rattle.series.proofs.Largest.{larger, within-minus, within-pick}
 use Rattle.rows.specs.FilterTables.{table2x12, table3x3, table3x5}
-use Rattle.filters.specs.Filter.{filter}
-use Rattle.filters.specs.Contracts.{Filterable}
+use Rattle.filters.specs.Filter.{valueAt, filter}
+use Rattle.filters.specs.Contracts.{Filterable, FilterableMonths}
 use Rattle.filters.proofs.Lengths.{length-filter}
+use Rattle.filters.proofs.ByMonth.{all-months}
 use Rattle.replacing.specs.Replaced.{replacedBy}
-use Rattle.steps.specs.Choices.{MovingAverage, average2x12, average3x3, average3x5, Replacing, monthly, plainMonthly}
+use Rattle.steps.specs.Choices.{MovingAverage, average2x12, average3x3, average3x5, Replacing, none, byWeights, monthly, plainMonthly}
+use Rattle.steps.specs.Places.{atMonth}
+use Rattle.steps.specs.ByMonth.{Stands}
 use Rattle.steps.specs.Steps.{level, T1, SI1, R1, M1, innerS1, S1, A1, T2, SI2}
 use Rattle.steps.proofs.Sound.{Norm, Sound, monthly-sound, plain-sound}
 use Rattle.steps.proofs.Largest as sizes
 use Rattle.steps.proofs.Lengths.{length-si1, length-si2}
+use Rattle.steps.proofs.ByMonth.{part-inner, stands-months}
 use Rattle.extremes.specs.Contracts.{Calendar, Weighable}
 use Rattle.extremes.specs.Weighing.{weightsOf}
-use Rattle.pass.specs.Contracts.{withoutLevel, PassSeries}
+use Rattle.pass.specs.Contracts.{withoutLevelAt, withoutLevel, PassSeries}
+use Rattle.pass.proofs.Places.{inner-is, whole-months, whole-is, filter-months, level-months}
 use Rattle.pass.proofs.Stages as stages
 use Rattle.tables.specs.PassB.{irregularB4, startB4, weightsB4, choicesB4, irregularB9, weightsB9, choicesB}
 use Rattle.tables.specs.Bounds.{largestB7}
@@ -66,8 +72,11 @@ weighs f l {si} e c h i j k m = record {
 }
 
 module _ {start : ℕ} {si r t s : List ℤ} {w : List ℕ} (h : Weighs start si r t s w) where
-  pub r-filterable : Filterable r
-  r-filterable = record { short = omega (arith, h .r-long, h .calendar .most); small = larger (h .r-small) (omega arith) }
+  pub r-filterable : FilterableMonths 0 (length si) r
+  r-filterable = rw (h .r-long) at (all-months (record { short = omega (arith, h .r-long, h .calendar .most); small = larger (h .r-small) (omega arith) }))
+
+  pub to-level : {l : List ℤ} → Filled (pos 0) (withoutLevelAt 6 table2x12 0 (length si) r) 0 (length si) s l → l ≡ withoutLevel 6 table2x12 r
+  to-level f = whole-is (f .long ∙ h .s-long) (level-months table2x12 (whole-months r (h .r-long)) (plain-sound .reach-is) (omega (arith, h .calendar .least)) f)
 
   level-small : AllWithin (2 * largestSI) (withoutLevel 6 table2x12 r)
   level-small = larger (within-minus (h .r-small) (within-pick _ _ (sizes.within-means (h .r-small) average2x12 (plain-sound .yearly-norm)))) (omega arith)
@@ -100,16 +109,30 @@ module _ {start : ℕ} {x : List ℤ} (h : PassBSeries start x) where
   pub sound : Sound (choicesB start x)
   sound = monthly-sound _ _
 
-  -- steps 1 and 2: b holds SI1 and a its 3×3
-  module _ {b : List ℤ} (e : b ≡ SI1 plainMonthly x) where
-    pub si1-filterable : Filterable b
-    si1-filterable = stages.si1-filterable plain-sound series e
+  -- steps 1 and 2: the slice b has SI1 at its own months, and a its 3×3
+  pub si1-stands : {o b : List ℤ} → Filled (pos 0) (atMonth 6 (SI1 plainMonthly x)) 6 (length x - 6) o b → length o ≡ length x → Stands 6 x (SI1 plainMonthly x) b
+  si1-stands f o = stages.si1-stands plain-sound series o f
 
-    pub si1-long : length b ≡ length x - 12
+  module _ {b : List ℤ} (e : Stands 6 x (SI1 plainMonthly x) b) where
+    pub si1-months : FilterableMonths 6 (length x - 6) b
+    si1-months = rw (e .long) at (stages.si1-filterable plain-sound series e)
+
+    pub si1-part : take (length x - 6 - 6) (drop 6 b) ≡ SI1 plainMonthly x
+    si1-part = rw (e .long) at (part-inner 6 b (omega (arith, e .long, h .long))) ∙ e .months
+
+    pub si1-3x3 : {o a : List ℤ} → Filled (pos 0) (valueAt table3x3 6 (length x - 6) b) 6 (length x - 6) o a → length o ≡ length x → take (length x - 6 - 6) (drop 6 a) ≡ filter table3x3 (SI1 plainMonthly x)
+    si1-3x3 {o} {a} f i = let l : length a ≡ length x = f .long ∙ i in rw l at (part-inner 6 a (omega (arith, l, h .long))) ∙ inner-is l (filter-months table3x3 (stands-months e) f)
+
+  -- b is the list SI1, and a its 3×3
+  module _ {b : List ℤ} (e : b ≡ SI1 plainMonthly x) where
+    si1-long : length b ≡ length x - 12
     si1-long = ap length e ∙ length-si1 plainMonthly x
 
     si1-small : AllWithin largestSI b
     si1-small = rw e (larger (sizes.si1 plain-sound (h .small)) (omega arith))
+
+    pub si1-filterable : Filterable b
+    si1-filterable = record { short = omega (arith, h .short, si1-long); small = larger si1-small (omega arith) }
 
     -- from whatever month: that it is the month of t = 6 matters to the weights alone
     pub weighs1 : {first : ℕ} {a t s : List ℤ} {w : List ℕ} → 1 ≤ first → first ≤ monthsOfYear → a ≡ filter table3x3 b
@@ -120,9 +143,12 @@ module _ {start : ℕ} {x : List ℤ} (h : PassBSeries start x) where
     unfolding weightsB4 irregularB4
     weights1 f i = i ∙ ap (weightsOf (startB4 start) monthsOfYear) (ap₂ minus e (stages.to-innerS1 plain-sound series e (ap (withoutLevel 6 table2x12) f)))
 
-  -- SI1 as it is replaced
-  pub to-replaced1 : {a : List ℤ} → a ≡ replacedBy monthsOfYear (weightsB4 start x) (SI1 plainMonthly x) → a ≡ replacedBy monthsOfYear (weightsB4 start x) (SI1 (choicesB4 start x) x)
-  to-replaced1 e = e ∙ ap (replacedBy monthsOfYear (weightsB4 start x)) (same-si1 _ _ _ x)
+  -- the slice a has SI1 as it is replaced at its own months
+  pub replaced1-stands : {o a : List ℤ} → Filled (pos 0) (atMonth 6 (replacedBy monthsOfYear (weightsB4 start x) (SI1 plainMonthly x))) 6 (length x - 6) o a → length o ≡ length x
+      → Stands 6 x (replacedBy monthsOfYear (weightsB4 start x) (SI1 (choicesB4 start x) x)) a
+  replaced1-stands {o} {a} f e =
+      stages.si1-stands sound4 series e
+      (subst (λ (l : List ℤ). Filled (pos 0) (atMonth 6 (replacedBy monthsOfYear (weightsB4 start x) l)) 6 (length x - 6) o a) (same-si1 average3x5 (byWeights (weightsB4 start x)) none x) f)
 
   -- step 6: a holds SI2 and b its 3×5
   module _ {a : List ℤ} (e : a ≡ SI2 (choicesB4 start x) x) where
@@ -134,6 +160,12 @@ module _ {start : ℕ} {x : List ℤ} (h : PassBSeries start x) where
 
     si2-small : AllWithin largestSI a
     si2-small = rw e (sizes.si2 sound4 (h .small) largestB7 (omega arith))
+
+    pub si2-months : FilterableMonths 0 (length x) a
+    si2-months = rw si2-long at (all-months si2-filterable)
+
+    pub si2-3x5 : {o b : List ℤ} → Filled (pos 0) (valueAt table3x5 0 (length x) a) 0 (length x) o b → length o ≡ length x → b ≡ filter table3x5 a
+    si2-3x5 f o = whole-is (f .long ∙ o) (filter-months table3x5 (whole-months a si2-long) f)
 
     pub si2-minusable : Minusable x a
     si2-minusable = record { short = h .short; long = si2-long; left = larger (h .small) (omega arith); right = larger si2-small (omega arith) }

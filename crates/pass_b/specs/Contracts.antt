@@ -20,13 +20,13 @@ pub record PassBSeries (start : ℕ) (x : List ℤ) : Type 0 where
   pub early : 1 ≤ start
   pub late : start ≤ monthsOfYear
 
--- the slices of pass B: s for the seasonal, k long, the others m long
-pub record PassBSlices (m k : ℕ) (a b t s : List ℤ) (w : List ℕ) : Type 0 where
-  pub a-long : length a ≡ m
-  pub b-long : length b ≡ m
-  pub t-long : length t ≡ m
-  pub s-long : length s ≡ k
-  pub w-long : length w ≡ m
+-- the slices of pass B, of n months
+pub record PassBSlices (n : ℕ) (a b t s : List ℤ) (w : List ℕ) : Type 0 where
+  pub a-long : length a ≡ n
+  pub b-long : length b ≡ n
+  pub t-long : length t ≡ n
+  pub s-long : length s ≡ n
+  pub w-long : length w ≡ n
 
 -- no number of SI1 or SI2 is larger, in pass B
 abbrev pub largestSI : ℕ

@@ -2,11 +2,14 @@
 ghost use mathlib.Core.Path.{_≡_};
 ghost use Prim.Native.Nat.{_-_};
 ghost use lib.ListN.{length};
+ghost use lib.IntN.{pos};
+ghost use Rattle.integers.specs.Filling.{Filled};
 ghost use Rattle.refusals.specs.Limits.{monthsOfYear};
 ghost use Rattle.series.specs.Operations.{minus};
 ghost use Rattle.rows.specs.FilterTables.{table2x12};
 ghost use Rattle.replacing.specs.Replaced.{replacedBy};
 ghost use Rattle.steps.specs.Choices.{plainMonthly};
+ghost use Rattle.steps.specs.Places.{atMonth};
 ghost use Rattle.steps.specs.Steps.{SI1, S1, T2};
 ghost use Rattle.extremes.specs.Weighing.{weightsOf};
 ghost use Rattle.tables.specs.PassB.{weightsB4, choicesB4};
@@ -20,13 +23,13 @@ fn weigh(si: &[i64], start: u8, r: &mut [i64], t: &mut [i64], s: &mut [i64], w: 
     requires { ⌜ Weighs start (now si) (now r) (now t) (now s) (now w) ⌝ }
     ensures { λ _. ⌜ now (w .exit) ≡ weightsOf start monthsOfYear (minus (now (si .entry)) (withoutLevel 6 table2x12 (now (r .entry)))) ⌝ }
 {
-    let e = si.len() - 12;
-    pass::without_level(r, &mut t[..e], s);
+    pass::without_level(0, si.len(), r, t, s);
     series::minus(si, s, r);
     extremes::weights(r, start, refusals::MONTHS_OF_YEAR as u8, t, s, w);
 }
 
-// Steps 1 and 2: SI1 of x, replaced, in a. All slices but x hold n - 12 numbers.
+// Steps 1 and 2: SI1 of x, replaced, in a, at its own months from 6 to n - 7; the six months at each end that it has not hold what they held. The
+// weighing and the replacing are lent these months alone: they count from the first month of what they are lent.
 fn replaced_si1(
     x: &[i64],
     start: u8,
@@ -36,17 +39,26 @@ fn replaced_si1(
     s: &mut [i64],
     w: &mut [u16],
 )
-    requires { ⌜ PassBSeries start (now x) × PassBSlices (length (now x) - 12) (length (now x) - 12) (now a) (now b) (now t) (now s) (now w) ⌝ }
-    ensures { λ _. ⌜ now (a .exit) ≡ replacedBy monthsOfYear (weightsB4 start (now (x .entry))) (SI1 plainMonthly (now (x .entry))) ⌝ }
+    requires { ⌜ PassBSeries start (now x) × PassBSlices (length (now x)) (now a) (now b) (now t) (now s) (now w) ⌝ }
+    ensures { λ _. ⌜ Filled (pos 0) (atMonth 6 (replacedBy monthsOfYear (weightsB4 start (now (x .entry))) (SI1 plainMonthly (now (x .entry)))))
+        6 (length (now (x .entry)) - 6) (now (a .entry)) (now (a .exit)) ⌝ }
 {
+    let past = x.len() - 6;
     pass::first_si(x, a, b);
-    filters::three_by_three(b, a);
+    filters::three_by_three(6, past, b, a);
     let first = extremes::month_of(start, refusals::MONTHS_OF_YEAR as u8, 6);
-    weigh(b, first, a, t, s, w);
-    replacing::replace(b, w, a);
+    weigh(
+        &b[6..past],
+        first,
+        &mut a[6..past],
+        &mut t[6..past],
+        &mut s[6..past],
+        &mut w[6..past],
+    );
+    replacing::replace(&b[6..past], &w[6..past], &mut a[6..past]);
 }
 
-// Steps 1 to 4: S1 of x in s. a, b, t and w hold n - 12 numbers.
+// Steps 1 to 4: S1 of x in s.
 fn first_seasonal(
     x: &[i64],
     start: u8,
@@ -56,13 +68,11 @@ fn first_seasonal(
     s: &mut [i64],
     w: &mut [u16],
 )
-    requires { ⌜ PassBSeries start (now x) × PassBSlices (length (now x) - 12) (length (now x)) (now a) (now b) (now t) (now s) (now w) ⌝ }
+    requires { ⌜ PassBSeries start (now x) × PassBSlices (length (now x)) (now a) (now b) (now t) (now s) (now w) ⌝ }
     ensures { λ _. ⌜ now (s .exit) ≡ S1 (choicesB4 start (now (x .entry))) (now (x .entry)) ⌝ }
 {
-    let e = x.len() - 12;
-    let m = x.len() - 24;
-    replaced_si1(x, start, a, b, t, &mut s[..e], w);
-    pass::seasonal_of_si1(a, b, &mut t[..m], s);
+    replaced_si1(x, start, a, b, t, s, w);
+    pass::seasonal_of_si1(a, b, t, s);
 }
 
 // Step 6: SI2 of x from its T2, replaced, in b. t makes way for the weighing, and is T2 again at the end: x less SI2.
@@ -76,11 +86,11 @@ fn replaced_si2(
     w: &mut [u16],
 )
     requires { ⌜ PassBSeries start (now x) × (now t ≡ T2 (choicesB4 start (now x)) (now x))
-        × PassBSlices (length (now x)) (length (now x)) (now a) (now b) (now t) (now s) (now w) ⌝ }
+        × PassBSlices (length (now x)) (now a) (now b) (now t) (now s) (now w) ⌝ }
     ensures { λ _. ⌜ SI2Replaced start (now (x .entry)) (now (b .exit)) (now (t .exit)) ⌝ }
 {
     series::minus(x, t, a);
-    filters::three_by_five(a, b);
+    filters::three_by_five(0, x.len(), a, b);
     weigh(a, start, b, t, s, w);
     replacing::replace(a, w, b);
     series::minus(x, a, t);
@@ -96,19 +106,10 @@ pub fn pass_b(
     s: &mut [i64],
     w: &mut [u16],
 )
-    requires { ⌜ PassBSeries start (now x) × PassBSlices (length (now x)) (length (now x)) (now a) (now b) (now t) (now s) (now w) ⌝ }
+    requires { ⌜ PassBSeries start (now x) × PassBSlices (length (now x)) (now a) (now b) (now t) (now s) (now w) ⌝ }
     ensures { λ _. ⌜ PassBDone start (now (x .entry)) (now (t .exit)) (now (s .exit)) ⌝ }
 {
-    let e = x.len() - 12;
-    first_seasonal(
-        x,
-        start,
-        &mut a[..e],
-        &mut b[..e],
-        &mut t[..e],
-        s,
-        &mut w[..e],
-    );
+    first_seasonal(x, start, a, b, t, s, w);
     pass::trend(Terms::Thirteen, x, s, a, t);
     replaced_si2(x, start, a, b, t, s, w);
     pass::seasonal_of_si2(b, a, s);

@@ -6,7 +6,7 @@ use Rattle.integers.specs.Rounding.{halfUp, awayFromZero, halfToEven, toGrain}
 use Rattle.integers.specs.Sums.{sumZ, sumN}
 use Rattle.series.specs.Operations.{changes}
 use Rattle.rows.specs.Table.{rowWeight, denominator}
-use Rattle.filters.specs.Filter.{earlier, later, rowAt, dot, weightedSum, valueAt, filter, reach, inside}
+use Rattle.filters.specs.Filter.{dot, rowFor, weightedSum, byRow, earlier, later, valueAt, filter, reach, inside}
 use Rattle.rows.specs.FilterTables.{table2x12, table3x3, table3x5, tableHenderson}
 use Rattle.trend_length.specs.TrendLength.{monthChanges, termsFor}
 use Rattle.extremes.specs.Spreads.{sizeOf, squares, spread, keep, remaining, secondSpread}
@@ -14,6 +14,6 @@ use Rattle.extremes.specs.Weighing.{weight, correctionOf}
 use Rattle.pencil.specs.Pencil.{pencil, PencilHolds}
 
 pub pencil-holds : PencilHolds
-unfolding pencil tabFrom tab oneMore rootIn root halfUp awayFromZero halfToEven toGrain sumZ sumN changes monthChanges termsFor rowWeight denominator earlier later rowAt dot weightedSum valueAt filter
+unfolding pencil tabFrom tab oneMore rootIn root halfUp awayFromZero halfToEven toGrain sumZ sumN changes monthChanges termsFor rowWeight denominator dot rowFor weightedSum byRow earlier later valueAt filter
     reach inside table2x12 table3x3 table3x5 tableHenderson sizeOf squares spread keep remaining secondSpread weight correctionOf
 pencil-holds = refl

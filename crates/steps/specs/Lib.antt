@@ -2,5 +2,6 @@
 pub mod Choices
 pub mod Places
 pub mod Steps
+pub mod ByMonth
 pub mod Exact
 pub mod Near

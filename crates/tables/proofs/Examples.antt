@@ -22,7 +22,7 @@ use Rattle.tables.specs.Examples.{flooded, FloodedJanuary, uneven, JustA
 
 pub examples : FloodedJanuary × JustAbove
 unfolding tabFrom tab oneMore rootIn root halfUp awayFromZero halfToEven toGrain sumZ sumN changes monthChanges termsFor trendLength minus times pick rowWeight denominator table2x12 table3x3 table3x5 tableHenderson
-    filters.earlier filters.later filters.rowAt filters.dot filters.weightedSum filters.valueAt filters.filter filters.reach filters.inside
+    filters.dot filters.rowFor filters.weightedSum filters.byRow filters.earlier filters.later filters.valueAt filters.filter filters.reach filters.inside
     neighbours.ofFullWeight neighbours.nearest neighbours.runBefore neighbours.runAfter neighbours.fullBefore neighbours.fullAfter neighbours.neighbours
     sumAt isReplaced countedSum counted replacedAt replacedBy inner nearestLevel copied widened level T1 SI1 R1 M1 innerS1 S1 A1 T2 SI2 R2 M2 S2
     months centre yearOf monthOf years yearStart groupAround group sizeOf sizesOf squares spread keep remaining secondSpread

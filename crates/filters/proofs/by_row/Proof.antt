@@ -1,11 +1,12 @@
 -- `filters::by_row` meets its contract: the row and the window lie within the slices, and the sum is that of the rules.
 -- Assumes nothing.
-use Prim.Native.Nat.{ℕ, _+_, _*_, _-_, _≤_}
+use Prim.Native.Nat.{ℕ, _+_, _*_, _-_}
 use mathlib.Core.Path.{_≡_, _∙_}
 use native.Mathlib.Omega.{arith}
 use borrow.Author.Needs.{needs}
 use Rattle.integers.proofs.Signed64.{i-call, i-within, kept}
 use Rattle.rows.specs.Table.{Table, denominator}
+use Rattle.filters.specs.Filter.{rowFor}
 use Rattle.filters.specs.Contracts.{tableOf, Dots}
 use Rattle.filters.proofs.Window as window
 use Rattle.filters.proofs.by_row.Statement.{statement}
@@ -20,38 +21,33 @@ row s = s .args .earlier + (s .args .f .side - s .args .later)
 
 the-dots : (s : tie.Start) → Dots (s .args .rows .now) (row s * s .args .f .width) (s .args .earlier + 1 + s .args .later)
     (s .args .x .now) (s .args .t - s .args .earlier * s .args .f .step) (s .args .f .step)
+unfolding rowFor
 the-dots s = window.dots (F s) (s .args .x .now) (s .args .t) (s .args .earlier) (s .args .later) (s .pre .0) (s .pre .1)
-
-from : (s : tie.Start) → s .args .earlier * s .args .f .step ≤ s .args .t
-from s = window.starts (F s) (s .args .x .now) (s .args .t) (s .args .earlier) (s .args .later) (s .pre .0) (s .pre .1)
-
-few : (s : tie.Start) → (s .args .earlier ≤ s .args .f .side) × (s .args .later ≤ s .args .f .side)
-few s = window.few (F s) (s .args .x .now) (s .args .t) (s .args .earlier) (s .args .later) (s .pre .0) (s .pre .1)
 
 -- the start of the function, from where its shape was read
 abbrev start3 : tie.After-struct-known3 → tie.Start
 start3 c = c .before .before .before
 
 sub-row : tie.Need-sub-row
-sub-row c = few (c .before) .1
+sub-row c = c .before .pre .1 .few-after
 
 add-row : tie.Need-add-row
-add-row c = omega (arith, few (c .before), c .before .pre .0 .readable .side-most)
+add-row c = omega (arith, c .before .pre .1, c .before .pre .0 .side-most)
 
 mul-first : tie.Need-mul-first
-mul-first c = omega (arith, from (c .before .before))
+mul-first c = let s = c .before .before in omega (arith, s .pre .1, s .pre .2)
 
 sub-first : tie.Need-sub-first
-sub-first c = from (c .before .before)
+sub-first c = c .before .before .pre .1 .before
 
 mul-dot : tie.Need-mul-dot
 mul-dot c = omega (arith, the-dots (start3 c) .room)
 
 add-dot : tie.Need-add-dot
-add-dot c = omega (arith, few (start3 c), start3 c .pre .0 .readable .side-most)
+add-dot c = omega (arith, start3 c .pre .1, start3 c .pre .0 .side-most)
 
 add-dot-2 : tie.Need-add-dot-2
-add-dot-2 c = omega (arith, few (start3 c), start3 c .pre .0 .readable .side-most)
+add-dot-2 c = omega (arith, start3 c .pre .1, start3 c .pre .0 .side-most)
 
 dot-requires : tie.Need-dot-requires
 dot-requires c κs = the-dots (start3 c)
@@ -65,10 +61,11 @@ denominator-requires c κs = search needs
 
 rounded-requires : tie.Need-rounded-requires
 rounded-requires c κs = let p = c .before in let s = start3 (p .before) in
-    let l = window.denominator-limits (F s) (s .pre .0 .readable) (row s) in
+    let l = window.denominator-limits (F s) (s .pre .0) (row s) in
     (i-within (i-call (p .dot .ok) (p .dot .ensures) (window.dot-within (the-dots s))), omega (arith, l, over c), omega (arith, l, over c))
 
 returns : tie.Need-returns
+unfolding rowFor
 returns c = let q = c .before in let p = q .before in let s = start3 (p .before) in
     window.value-is (F s) (s .args .x .now) (s .args .t) (s .args .earlier) (s .args .later) (s .pre .0) (s .pre .1)
     (q .denominator .result) (kept (p .dot .ok) (p .dot .ensures)) (over q) (kept (c .rounded .ok) (c .rounded .ensures))

@@ -56,12 +56,12 @@ light l h = let f : ℕ → ℕ = λ j. natAbs (l .before .args .w .now ‼ (l .
 mul-sum-4 : tie.Need-mul-sum-4 Inv-loop μ-loop
 mul-sum-4 c = let l = c .before .before .before in let a = l .before .args in let p = l .before .pre in let w = a .w .now in let at = a .at in let k = l .loop .k in
     let e = light l (omega arith) in
-    i-fits (i* (i-in (self-within (w ‼ (at + k))) (omega (arith, lt→ltb, e))) (i-in (p .small .at (a .from + k * a .step)) tt)) (omega (arith, lt→ltb, e))
+    i-fits (i* (i-in (self-within (w ‼ (at + k))) (omega (arith, lt→ltb, e))) (i-in (p .small k (omega arith)) tt)) (omega (arith, lt→ltb, e))
 
 add-sum-3 : tie.Need-add-sum-3 Inv-loop μ-loop
 add-sum-3 c = let l = c .before .before .before in let a = l .before .args in let p = l .before .pre in let w = a .w .now in let at = a .at in let k = l .loop .k in
     let e = light l (omega arith) in
-    i-fits (i+ (l .loop .inv .1) (i-kept (i* (i-in (self-within (w ‼ (at + k))) (omega (arith, lt→ltb, e))) (i-in (p .small .at (a .from + k * a .step)) tt)) (omega (arith, lt→ltb, e)))) (omega (arith, lt→ltb, e))
+    i-fits (i+ (l .loop .inv .1) (i-kept (i* (i-in (self-within (w ‼ (at + k))) (omega (arith, lt→ltb, e))) (i-in (p .small k (omega arith)) tt)) (omega (arith, lt→ltb, e)))) (omega (arith, lt→ltb, e))
 
 add-k : tie.Need-add-k Inv-loop μ-loop
 add-k c = omega arith
@@ -73,7 +73,7 @@ loop-again : tie.Need-loop-again Inv-loop μ-loop
 loop-again c = let l = c .before .before .before in let a = l .before .args in let p = l .before .pre in let w = a .w .now in let at = a .at in let k = l .loop .k in
     let e = light l (omega arith) in (
       omega arith,
-      i≤ (i≡ (i-kept (i+ (l .loop .inv .1) (i-kept (i* (i-in (self-within (w ‼ (at + k))) (omega (arith, lt→ltb, e))) (i-in (p .small .at (a .from + k * a .step)) tt)) (omega (arith, lt→ltb, e)))) (omega (arith, lt→ltb, e))) (sym (sum-more _ _)))
+      i≤ (i≡ (i-kept (i+ (l .loop .inv .1) (i-kept (i* (i-in (self-within (w ‼ (at + k))) (omega (arith, lt→ltb, e))) (i-in (p .small k (omega arith)) tt)) (omega (arith, lt→ltb, e)))) (omega (arith, lt→ltb, e))) (sym (sum-more _ _)))
           (omega (arith, sumN-more k (λ j. natAbs (w ‼ (at + j))))),
     )
 

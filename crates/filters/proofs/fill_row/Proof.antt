@@ -7,13 +7,14 @@ use lib.IntN.{pos}
 use Rattle.integers.proofs.Signed64.{kept}
 use Rattle.integers.specs.Filling.{Filled}
 use Rattle.integers.proofs.FillingLaws.{filled-none, filled-more}
-use Rattle.filters.specs.Filter.{valueAt}
+use Rattle.filters.specs.Filter.{byRow}
 use Rattle.filters.specs.Contracts.{tableOf}
+use Rattle.filters.proofs.Stretches.{served-at}
 use Rattle.filters.proofs.fill_row.Statement.{statement}
 use Rattle.filters.proofs.fill_row.Tie as tie
 
 abbrev Inv-loop : tie.InvT-loop
-Inv-loop f rows x earlier later lo hi out₀ t₀ out t = (lo ≤ t) × (t ≤ hi) × Filled (pos 0) (valueAt (tableOf f rows) x) lo t out₀ out
+Inv-loop f rows x earlier later lo hi out₀ t₀ out t = (lo ≤ t) × (t ≤ hi) × Filled (pos 0) (byRow (tableOf f rows) earlier later x) lo t out₀ out
 
 abbrev μ-loop : tie.MeasureT-loop
 μ-loop f rows x earlier later lo hi out₀ t₀ out t = hi - t
@@ -22,7 +23,7 @@ loop-holds : tie.Need-loop-holds Inv-loop μ-loop
 loop-holds c = (omega arith, c .pre .1 .order, filled-none)
 
 by-row-requires : tie.Need-by-row-requires Inv-loop μ-loop
-by-row-requires c κs = let l = c .before in let s = l .before in (s .pre .0, s .pre .1 .each (l .loop .t) (omega arith) (omega arith))
+by-row-requires c κs = let l = c .before in let s = l .before in (s .pre .0, served-at (s .pre .1) (l .loop .t) (omega arith) (omega arith), s .pre .2)
 
 mul-t12 : tie.Need-mul-t12 Inv-loop μ-loop
 mul-t12 c = omega arith

@@ -1,64 +1,31 @@
--- `filters::henderson_9` meets its contract: three stretches by the rows of its table.
+-- `filters::henderson_9` meets its contract: all months by the rows of its table.
 -- Assumes nothing.
+use mathlib.Core.Path.{refl}
+use borrow.Author.Needs.{needs}
+use Rattle.integers.proofs.FillingLaws.{filled-tab}
 use Rattle.rows.specs.declared.Terms.the-variants.{Nine}
 use Rattle.rows.specs.FilterTables.{tableHenderson}
+use Rattle.filters.specs.Filter.{filter}
 use Rattle.filters.proofs.Stored.{readableHenderson}
-use Rattle.filters.proofs.Stretches.{Fillable, start-asks, inside-asks, end-asks, all-filled}
-use borrow.Author.Needs.{needs}
+use Rattle.filters.proofs.Stretches.{filters-all}
 use Rattle.filters.proofs.henderson_9.Statement.{statement}
 use Rattle.filters.proofs.henderson_9.Tie as tie
 
--- the start of the function, from after its first call
-abbrev from : tie.After-fill-rows → tie.Start
-from a = a .before .before .before
+slice-aggregate-fill-months : tie.Need-slice-aggregate-fill-months
+slice-aggregate-fill-months c = search needs
 
-fillable : (s : tie.Start) → Fillable (tableHenderson Nine) (s .args .x .now) (s .args .out .now)
+fill-months-requires : tie.Need-fill-months-requires
 unfolding tableHenderson
-fillable s = record { filterable = s .pre .0; long = s .pre .1; same = s .pre .2 }
-
-sub-e : tie.Need-sub-e
-sub-e c = search needs
-
-slice-aggregate-fill-rows : tie.Need-slice-aggregate-fill-rows
-slice-aggregate-fill-rows c = search needs
-
-fill-rows-requires : tie.Need-fill-rows-requires
-unfolding tableHenderson
-fill-rows-requires c κs = let s = c .before .before in start-asks (readableHenderson Nine) (fillable s)
-
-slice-aggregate-fill-row : tie.Need-slice-aggregate-fill-row
-slice-aggregate-fill-row c = search needs
-
-fill-row-requires : tie.Need-fill-row-requires
-unfolding tableHenderson
-fill-row-requires c κs = let a = c .before .before .before in let s = from a in inside-asks (readableHenderson Nine) (fillable s) (a .fill-rows .ensures)
-
-slice-aggregate-fill-rows-2 : tie.Need-slice-aggregate-fill-rows-2
-slice-aggregate-fill-rows-2 c = search needs
-
-fill-rows-requires-2 : tie.Need-fill-rows-requires-2
-unfolding tableHenderson
-fill-rows-requires-2 c κs = let b = c .before .before .before in let a = b .before .before .before .before in let s = from a in
-    end-asks (readableHenderson Nine) (fillable s) (a .fill-rows .ensures) (b .fill-row .ensures)
+fill-months-requires c κs = let s = c .before .before in (filters-all (readableHenderson Nine) (s .pre .0) (s .pre .1), s .pre .2)
 
 same-length : tie.Need-same-length
 same-length c = search needs
 
 returns : tie.Need-returns
-unfolding tableHenderson
-returns c = let d = c .before in let b = d .before .before .before .before in let a = b .before .before .before .before in let s = from a in
-    all-filled (readableHenderson Nine) (fillable s) (a .fill-rows .ensures) (b .fill-row .ensures) (d .fill-rows2 .ensures)
+unfolding tableHenderson filter
+returns c = filled-tab (c .before .fill-months .ensures) refl (c .before .before .before .before .pre .2)
 
 pub henderson-9-spec : {M : Type 1} → statement M
 henderson-9-spec =
     tie.close
-    (tie.spec
-    sub-e
-    slice-aggregate-fill-rows
-    fill-rows-requires
-    slice-aggregate-fill-row
-    fill-row-requires
-    slice-aggregate-fill-rows-2
-    fill-rows-requires-2
-    same-length
-    returns)
+    (tie.spec slice-aggregate-fill-months fill-months-requires same-length returns)

@@ -2,6 +2,7 @@
 -- Assumes nothing.
 use mathlib.Core.Path.{subst⁻¹}
 use Prim.Native.Nat.{ℕ, _+_, _*_, _-_}
+use native.Mathlib.Omega.{arith}
 use lib.IntN.{ℤ, _+ℤ_, _-ℤ_}
 use mir.Syntax.{w64}
 use mir.Val.{toZ, ofZ}
@@ -22,16 +23,16 @@ at s k = s .args .x .now ‼ k
 
 -- the two values that come in, the two that leave, and the new sum
 come : (s : tie.Start) → Reads (word (at s (s .args .i + 11)) +ℤ word (at s (s .args .i + 12))) (at s (s .args .i + 11) +ℤ at s (s .args .i + 12)) (largest + largest)
-come s = i+ (i-in (s .pre .0 .small .at (s .args .i + 11)) tt) (i-in (s .pre .0 .small .at (s .args .i + 12)) tt)
+come s = i+ (i-in (s .pre .0 .small (s .args .i + 11) (omega arith) (omega arith)) tt) (i-in (s .pre .0 .small (s .args .i + 12) (omega arith) (omega arith)) tt)
 
 leave : (s : tie.Start) → Reads (word (at s (s .args .i - 1)) +ℤ word (at s (s .args .i))) (at s (s .args .i - 1) +ℤ at s (s .args .i)) (largest + largest)
-leave s = i+ (i-in (s .pre .0 .small .at (s .args .i - 1)) tt) (i-in (s .pre .0 .small .at (s .args .i)) tt)
+leave s = i+ (i-in (s .pre .0 .small (s .args .i - 1) (omega (arith, s .pre .0 .back)) (omega arith)) tt) (i-in (s .pre .0 .small (s .args .i) (omega arith) (omega arith)) tt)
 
 whole : (s : tie.Start)
     → Reads (word (s .args .sum) +ℤ word (word (word (at s (s .args .i + 11)) +ℤ word (at s (s .args .i + 12))) -ℤ word (word (at s (s .args .i - 1)) +ℤ word (at s (s .args .i)))))
     (sum2x12 (s .args .x .now) (s .args .i)) (24 * largest + (largest + largest + (largest + largest)))
 whole s = let x = s .args .x .now in let i = s .args .i in
-    i≡ (i+ (i≡ (i-in (subst⁻¹ (λ (z : ℤ). z within (24 * largest)) (s .pre .3) (sum-small x (i - 1) (s .pre .0))) tt) (s .pre .3)) (i-kept (i- (i-kept (come s) tt) (i-kept (leave s) tt)) tt)) (next-is x i (s .pre .1))
+    i≡ (i+ (i≡ (i-in (subst⁻¹ (λ (z : ℤ). z within (24 * largest)) (s .pre .1) (sum-small x (i - 1) (λ t l m. s .pre .0 .small t (omega (arith, s .pre .0 .back)) (omega (arith, s .pre .0 .back))))) tt) (s .pre .1)) (i-kept (i- (i-kept (come s) tt) (i-kept (leave s) tt)) tt)) (next-is x i (s .pre .0 .back))
 
 add-result : tie.Need-add-result
 add-result c = search needs

@@ -1,63 +1,26 @@
--- `filters::three_by_five` meets its contract: three stretches by the rows of its table.
+-- `filters::three_by_five` meets its contract: the month-run step by the rows of 3×5.
 -- Assumes nothing.
+use borrow.Author.Needs.{needs}
 use Rattle.rows.specs.FilterTables.{table3x5}
 use Rattle.filters.proofs.Stored.{readable3x5}
-use Rattle.filters.proofs.Stretches.{Fillable, start-asks, inside-asks, end-asks, all-filled}
-use borrow.Author.Needs.{needs}
 use Rattle.filters.proofs.three_by_five.Statement.{statement}
 use Rattle.filters.proofs.three_by_five.Tie as tie
 
--- the start of the function, from after its first call
-abbrev from : tie.After-fill-rows → tie.Start
-from a = a .before .before .before
+slice-aggregate-month-runs : tie.Need-slice-aggregate-month-runs
+slice-aggregate-month-runs c = search needs
 
-fillable : (s : tie.Start) → Fillable table3x5 (s .args .x .now) (s .args .out .now)
+month-runs-requires : tie.Need-month-runs-requires
 unfolding table3x5
-fillable s = record { filterable = s .pre .0; long = s .pre .1; same = s .pre .2 }
-
-sub-e : tie.Need-sub-e
-sub-e c = search needs
-
-slice-aggregate-fill-rows : tie.Need-slice-aggregate-fill-rows
-slice-aggregate-fill-rows c = search needs
-
-fill-rows-requires : tie.Need-fill-rows-requires
-unfolding table3x5
-fill-rows-requires c κs = let s = c .before .before in start-asks readable3x5 (fillable s)
-
-slice-aggregate-fill-row : tie.Need-slice-aggregate-fill-row
-slice-aggregate-fill-row c = search needs
-
-fill-row-requires : tie.Need-fill-row-requires
-unfolding table3x5
-fill-row-requires c κs = let a = c .before .before .before in let s = from a in inside-asks readable3x5 (fillable s) (a .fill-rows .ensures)
-
-slice-aggregate-fill-rows-2 : tie.Need-slice-aggregate-fill-rows-2
-slice-aggregate-fill-rows-2 c = search needs
-
-fill-rows-requires-2 : tie.Need-fill-rows-requires-2
-unfolding table3x5
-fill-rows-requires-2 c κs = let b = c .before .before .before in let a = b .before .before .before .before in let s = from a in
-    end-asks readable3x5 (fillable s) (a .fill-rows .ensures) (b .fill-row .ensures)
+month-runs-requires c κs = let s = c .before .before in (record { readable = readable3x5; enough = s .pre .1; filterable = s .pre .0 }, s .pre .2)
 
 same-length : tie.Need-same-length
 same-length c = search needs
 
 returns : tie.Need-returns
 unfolding table3x5
-returns c = let d = c .before in let b = d .before .before .before .before in let a = b .before .before .before .before in let s = from a in
-    all-filled readable3x5 (fillable s) (a .fill-rows .ensures) (b .fill-row .ensures) (d .fill-rows2 .ensures)
+returns c = c .before .month-runs .ensures
 
 pub three-by-five-spec : {M : Type 1} → statement M
 three-by-five-spec =
     tie.close
-    (tie.spec
-    sub-e
-    slice-aggregate-fill-rows
-    fill-rows-requires
-    slice-aggregate-fill-row
-    fill-row-requires
-    slice-aggregate-fill-rows-2
-    fill-rows-requires-2
-    same-length
-    returns)
+    (tie.spec slice-aggregate-month-runs month-runs-requires same-length returns)

@@ -18,10 +18,10 @@ shared-slice-copy-out-result-2 : tie.Need-shared-slice-copy-out-result-2
 shared-slice-copy-out-result-2 c = search needs
 
 sub-result : tie.Need-sub-result
-sub-result c = let s = c .before .before in i-fits (i- (i-in (s .pre .0 .left .at (s .args .t)) tt) (i-in (s .pre .0 .right .at (s .args .i)) tt)) tt
+sub-result c = let s = c .before .before in i-fits (i- (i-in (s .pre .2) tt) (i-in (s .pre .3) tt)) tt
 
 returns : tie.Need-returns
-returns c = let s = c .before .before in i-kept (i- (i-in (s .pre .0 .left .at (s .args .t)) tt) (i-in (s .pre .0 .right .at (s .args .i)) tt)) tt .eq
+returns c = let s = c .before .before in i-kept (i- (i-in (s .pre .2) tt) (i-in (s .pre .3) tt)) tt .eq
 
 pub less-at-spec : {M : Type 1} → statement M
 less-at-spec =

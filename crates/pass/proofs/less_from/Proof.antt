@@ -20,13 +20,13 @@ abbrev μ-loop : tie.MeasureT-loop
 μ-loop r m i step lo hi out₀ t₀ out t = hi - t
 
 loop-holds : tie.Need-loop-holds Inv-loop μ-loop
-loop-holds c = (omega arith, c .pre .1 .order, filled-none)
+loop-holds c = (omega arith, c .pre .0 .order, filled-none)
 
--- the level that place t looks at is there
+-- the level that month t looks at is there
 looks : (c : tie.In-loop Inv-loop μ-loop) → let l = c .before in let a = l .before .args in
-    (a .i + a .step * (l .loop .t - a .lo) < length (a .m .now)) × (length (a .m .now) + 12 ≤ 600)
+    (a .i + a .step * (l .loop .t - a .lo) < length (a .m .now)) × (length (a .m .now) ≤ 600)
 unfolding along
-looks c = let l = c .before in let s = l .before in (s .pre .1 .each (l .loop .t) (omega arith) (omega arith), omega (arith, s .pre .0 .fewer, s .pre .0 .short))
+looks c = let l = c .before in let s = l .before in (s .pre .0 .each (l .loop .t) (omega arith) (omega arith), omega (arith, s .pre .0 .same, s .pre .0 .short))
 
 sub-less-at : tie.Need-sub-less-at Inv-loop μ-loop
 sub-less-at c = omega arith
@@ -38,23 +38,25 @@ add-less-at : tie.Need-add-less-at Inv-loop μ-loop
 add-less-at c = omega (arith, looks c)
 
 less-at-requires : tie.Need-less-at-requires Inv-loop μ-loop
-less-at-requires c κs = let s = c .before .before in (s .pre .0, omega (arith, s .pre .1 .inside), looks c .0)
+unfolding along
+less-at-requires c κs = let l = c .before in let p = l .before .pre .0 in
+    (omega (arith, p .inside), looks c .0, p .left (l .loop .t) (omega arith) (omega arith), p .right (l .loop .t) (omega arith) (omega arith))
 
 mul-t14 : tie.Need-mul-t14 Inv-loop μ-loop
-mul-t14 c = let l = c .before .before in omega (arith, l .before .pre .0 .short, l .before .pre .1 .inside, c .before .loop-test)
+mul-t14 c = let l = c .before .before in omega (arith, l .before .pre .0 .short, l .before .pre .0 .inside, c .before .loop-test)
 
 slice-set-from-out : tie.Need-slice-set-from-out Inv-loop μ-loop
-slice-set-from-out c = let l = c .before .before in omega (arith, l .loop .inv .2 .long, l .before .pre .1 .inside, l .before .pre .2, c .before .loop-test)
+slice-set-from-out c = let l = c .before .before in omega (arith, l .loop .inv .2 .long, l .before .pre .0 .inside, l .before .pre .1, c .before .loop-test)
 
 add-t : tie.Need-add-t Inv-loop μ-loop
-add-t c = let l = c .before .before in omega (arith, l .before .pre .0 .short, l .before .pre .1 .inside, c .before .loop-test)
+add-t c = let l = c .before .before in omega (arith, l .before .pre .0 .short, l .before .pre .0 .inside, c .before .loop-test)
 
 loop-less : tie.Need-loop-less Inv-loop μ-loop
 loop-less c = omega arith
 
 loop-again : tie.Need-loop-again Inv-loop μ-loop
 unfolding along
-loop-again c = let l = c .before .before in let s = l .before in (omega arith, omega arith, filled-more (l .loop .inv .2) (omega arith) (omega (arith, l .loop .inv .2 .long, s .pre .1 .inside, s .pre .2)) (kept (c .less-at .ok) (c .less-at .ensures)))
+loop-again c = let l = c .before .before in let s = l .before in (omega arith, omega arith, filled-more (l .loop .inv .2) (omega arith) (omega (arith, l .loop .inv .2 .long, s .pre .0 .inside, s .pre .1)) (kept (c .less-at .ok) (c .less-at .ensures)))
 
 same-length : tie.Need-same-length Inv-loop μ-loop
 same-length c = c .before .loop .inv .2 .long

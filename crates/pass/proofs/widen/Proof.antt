@@ -1,43 +1,34 @@
--- `pass::widen` meets its contract: its three stretches are filled in turn.
+-- `pass::widen` meets its contract: both ends are copied.
 -- Assumes nothing.
 use Prim.Native.Nat.{ℕ, _-_}
-use mathlib.Core.Path.{refl, subst⁻¹, _∙_}
+use mathlib.Core.Path.{refl, subst⁻¹}
 use native.Mathlib.Omega.{arith}
 use lib.ListN.{length}
-use Rattle.pass.specs.Contracts.{Along}
-use Rattle.pass.proofs.Places.{first-copies, own-copies, last-copies, copies-filled}
+use Rattle.pass.specs.Contracts.{Copies}
+use Rattle.pass.proofs.Places.{first-copies, last-copies, copies-filled}
 use borrow.Author.Needs.{needs}
 use Rattle.pass.proofs.widen.Statement.{statement}
 use Rattle.pass.proofs.widen.Tie as tie
 
 copy-from-requires : tie.Need-copy-from-requires
-copy-from-requires c κs = let s = c .before in (first-copies 6 (s .args .s .now) (length (s .args .out .now)) (s .pre .0) (s .pre .2), s .pre .1)
+copy-from-requires c κs = let s = c .before in (first-copies 6 (length (s .args .out .now)) (s .pre .0), s .pre .1)
 
 sub-copy-from : tie.Need-sub-copy-from
 sub-copy-from c = search needs
 
-copy-from-requires-2 : tie.Need-copy-from-requires-2
-copy-from-requires-2 c κs = let a = c .before .before in let s = a .before .before in let n = length (s .args .out .now) in
-    let e = a .copy-from .ensures .long in
-    (subst⁻¹ (λ (k : ℕ). Along 0 1 6 (n - 6) k (length (s .args .s .now))) e (own-copies 6 (s .args .s .now) n (s .pre .0) (s .pre .2)), omega (arith, e, s .pre .1))
-
 sub-copy-from-2 : tie.Need-sub-copy-from-2
 sub-copy-from-2 c = search needs
 
-sub-copy-from-3 : tie.Need-sub-copy-from-3
-sub-copy-from-3 c = search needs
-
-copy-from-requires-3 : tie.Need-copy-from-requires-3
-copy-from-requires-3 c κs = let b = c .before .before in let a = b .before .before .before in let s = a .before .before in let n = length (s .args .out .now) in
-    let e = b .copy-from2 .ensures .long ∙ a .copy-from .ensures .long in
-    (subst⁻¹ (λ (k : ℕ). Along (n - 24) 1 (n - 6) n k (length (s .args .s .now))) e (last-copies 6 (s .args .s .now) n (s .pre .0) (s .pre .2)), omega (arith, e, s .pre .1))
+copy-from-requires-2 : tie.Need-copy-from-requires-2
+copy-from-requires-2 c κs = let a = c .before .before in let s = a .before .before in let n = length (s .args .out .now) in let e = a .copy-from .ensures .long in
+    (subst⁻¹ (λ (k : ℕ). Copies (n - 18) (n - 6) n k) e (last-copies 6 n (s .pre .0)), omega (arith, e, s .pre .1))
 
 same-length : tie.Need-same-length
 same-length c = search needs
 
 returns : tie.Need-returns
-returns c = let d = c .before in let b = d .before .before .before in let a = b .before .before .before in let s = a .before .before in
-    copies-filled 6 (s .args .s .now) (length (s .args .out .now)) (s .pre .0) (s .pre .2) refl (a .copy-from .ensures) (b .copy-from2 .ensures) (d .copy-from3 .ensures)
+returns c = let b = c .before in let a = b .before .before .before in let s = a .before .before in
+    copies-filled 6 (length (s .args .out .now)) (s .pre .0) refl (a .copy-from .ensures) (b .copy-from2 .ensures)
 
 pub widen-spec : {M : Type 1} → statement M
 widen-spec =
@@ -45,9 +36,7 @@ widen-spec =
     (tie.spec
     copy-from-requires
     sub-copy-from
-    copy-from-requires-2
     sub-copy-from-2
-    sub-copy-from-3
-    copy-from-requires-3
+    copy-from-requires-2
     same-length
     returns)
