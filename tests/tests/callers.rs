@@ -11,7 +11,7 @@ use std::path::{Path, PathBuf};
 use std::process::{Command, Output, Stdio};
 use std::sync::LazyLock;
 
-const VERSION: [usize; 3] = [0, 13, 0];
+const VERSION: [usize; 3] = [0, 13, 1];
 
 /// The words of the refusal sheet by number, and those for every other number.
 const TEXTS: [&str; 11] = [

@@ -71,8 +71,8 @@ fn stored_rows_are_those_of_the_formulas() {
         let served = (0..terms).map(|t| henderson_at(terms, t, terms));
         let worked: Vec<i128> = served.flat_map(|row| [row.weights.clone(), vec![0; terms - row.weights.len()]].concat()).collect();
         assert_eq!(stored, worked, "{terms}");
-        let shape = between(&source, "Shape {", "}");
-        assert_eq!(numbers(shape), [terms as i128 / 2, 1, terms as i128, henderson_rows(terms).divisor, 1_000_000]);
+        let constant = |name: &str| numbers(between(&source, &format!("pub const {name}_HENDERSON_{terms}: usize = "), ";"));
+        assert_eq!([constant("SIDE"), constant("MIDDLE")], [vec![terms as i128 / 2], vec![henderson_rows(terms).divisor]]);
     }
 }
 

@@ -12,7 +12,7 @@ use Rattle.rows.specs.Table.{Table}
 use Rattle.filters.proofs.ByMonth.{all-months}
 use Rattle.filters.specs.Filter.{earlier, later, byRow, valueAt}
 use Rattle.filters.proofs.Window.{one-alike, side-alike, all-inside, one-step}
-use Rattle.filters.specs.Contracts.{Filterable, FilterableMonths, Readable, Served, Serves, rowBefore, rowAfter, inTurn, ServeInTurn, FiltersMonths, alike, monthsEach}
+use Rattle.filters.specs.Contracts.{Filterable, FilterableMonths, Readable, Served, Serves, rowBefore, rowAfter, inTurn, ServeInTurn, CanFilter, alike, monthsEach}
 
 -- of a distance d, b steps are whole, or more than a row takes
 pub count-is : (step side d b : ℕ) → 1 ≤ step → b ≤ side → b * step ≤ d → (b ≡ side) ⊎ (d < b * step + step) → b ≡ min (d / step) side
@@ -29,6 +29,10 @@ served-at s t l m = record {
   after = omega (arith, s .after);
   small = λ i u v. s .small i (omega arith) (omega arith);
 }
+
+-- by the row for as many
+pub serves-as : {F : Table} {b a c d lo hi : ℕ} {x : List ℤ} → b ≡ c → a ≡ d → Serves F c d lo hi x → Serves F b a lo hi x
+serves-as e f s = rw (e, f) s
 
 -- of a table that has the months from `first` to below `past`, those from lo to below hi have b values before them and a after them, no more than a
 -- row takes, and all that there are if fewer
@@ -223,5 +227,5 @@ all-filled ok l (the-inside e f) = absurd (omega (arith, ok .side-least))
 all-filled ok l (the-end e f) = f
 
 -- a series has all its months
-pub filters-all : {F : Table} {x : List ℤ} → Readable F → Filterable x → 2 * (F .side * F .step) ≤ length x → FiltersMonths F 0 (length x) x
+pub filters-all : {F : Table} {x : List ℤ} → Readable F → Filterable x → 2 * (F .side * F .step) ≤ length x → CanFilter F 0 (length x) x
 filters-all ok h long = record { readable = ok; enough = omega (arith, long); filterable = all-months h }

@@ -17,7 +17,7 @@ use Rattle.integers.specs.Sums.{norm}
 use Rattle.integers.proofs.SumLaws.{sumN-upto, wsum-within}
 use Rattle.integers.specs.Contracts.{largestNumerator}
 use Rattle.rows.specs.Table.{Table, rowWeight, denominator}
-use Rattle.rows.specs.declared.Shape.{Shape}
+use Rattle.filters.specs.declared.Shape.{Shape}
 use Rattle.rows.proofs.RowTests.{all, all-at}
 use Rattle.filters.specs.Filter.{dot, rowFor, weightedSum, byRow}
 use Rattle.filters.specs.Contracts.{largest, largestNorm, largestOver, mostSide, mostStep, mostWidth, tableOf, Dots, Readable, Served, alike, monthsEach}

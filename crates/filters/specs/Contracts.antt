@@ -1,18 +1,19 @@
--- What the code of the filters asks of its arguments. Nothing here is promised to a caller of the desk.
+-- What the code of the filters asks of its arguments, and leaves. Nothing here is promised to a caller of the desk.
 use mathlib.Core.Bool.{cond}
 use mathlib.Core.List.{List}
 use Prim.Native.Nat.{ℕ, _+_, _*_, _-_, _/_, _≤_, _<_, min}
 use lib.Dec.{eqb}
 use lib.ListN.{length}
-use lib.IntN.{ℤ}
+use lib.IntN.{ℤ, pos}
 use Rattle.integers.specs.Sizes.{_within_}
 use Rattle.integers.specs.Lists.{_‼_, AllWithin}
+use Rattle.integers.specs.Filling.{Filled}
 use Rattle.integers.specs.Sums.{norm}
 use Rattle.refusals.specs.Limits.{mostMonths, monthsOfYear}
-use Rattle.rows.specs.declared.Shape.{Shape}
 use Rattle.rows.specs.Table.{Table, rowWeight}
 use Rattle.rows.specs.MeanRows.{row2x12}
-use Rattle.filters.specs.Filter.{dot, byRow}
+use Rattle.filters.specs.declared.Shape.{Shape}
+use Rattle.filters.specs.Filter.{dot, byRow, valueAt}
 
 -- no number that is filtered is larger; times the largest norm it is a numerator that can be rounded
 abbrev pub largest : ℕ
@@ -44,7 +45,7 @@ tableOf f rows = record { side = f .side; step = f .step; width = f .width; rows
 abbrev pub tableWith : ℕ → ℕ → ℕ → ℕ → List ℤ → Table
 tableWith side step middle ends rows = record { side = side; step = step; width = 2 * side + 1; rows = rows; middle = middle; ends = ends }
 
--- METHOD 2.3: a seasonal filter, whose values stand twelve months apart and whose rows have one denominator
+-- METHOD 2.3 and 2.4: a seasonal filter, whose values stand twelve months apart and whose rows have one denominator
 abbrev pub runTable : ℕ → ℕ → List ℤ → Table
 runTable side over rows = tableWith side monthsOfYear over over rows
 
@@ -66,7 +67,7 @@ pub record FilterableMonths (first past : ℕ) (x : List ℤ) : Type 0 where
   pub inside : past ≤ length x
   pub small : (t : ℕ) → first ≤ t → t < past → (x ‼ t) within largest
 
--- a table that can be read
+-- rows that can be read
 pub record Readable (F : Table) : Type 0 where
   pub side-least : 1 ≤ F .side
   pub side-most : F .side ≤ mostSide
@@ -80,7 +81,7 @@ pub record Readable (F : Table) : Type 0 where
   pub middle-most : F .middle ≤ largestOver
   pub ends-most : F .ends ≤ largestOver
 
--- place t has b values before it and a after it, no more than a row takes, and none of those that the row meets is too large
+-- place t has b values before it and a after it, no more than a row takes, and nothing from the first of these places to the last is too large
 pub record Served (F : Table) (b a t : ℕ) (x : List ℤ) : Type 0 where
   pub few-before : b ≤ F .side
   pub few-after : a ≤ F .side
@@ -116,17 +117,22 @@ pub record ServeInTurn (F : Table) (row count at each : ℕ) (x : List ℤ) : Ty
   pub inside : at + count * each ≤ length x
   pub serves : (k : ℕ) → k < count → Serves F (rowBefore F (row + k)) (rowAfter F (row + k)) (at + k * each) (at + k * each + each) x
 
--- a table of rows and a slice whose months from `first` to below `past` it can filter: they are enough for its rows
-pub record FiltersMonths (F : Table) (first past : ℕ) (x : List ℤ) : Type 0 where
+-- the rows F can filter the months from `first` to below `past` of a slice: these are enough for them
+pub record CanFilter (F : Table) (first past : ℕ) (x : List ℤ) : Type 0 where
   pub readable : Readable F
   pub enough : first + 2 * (F .side * F .step) ≤ past
   pub filterable : FilterableMonths first past x
 
--- how many rows from `row` on serve as many months each: those before the middle one, that one, those after it
+-- METHOD 2.1 and 2.3: what the filter by the rows F leaves of values at the months from `first` to below `past` of x: in `new` at each of these months
+-- its value there, and every other entry as it was in `old`. With the rows of a seasonal filter that is the month-run step
+abbrev pub FilteredMonths : Table → ℕ → ℕ → List ℤ → List ℤ → List ℤ → Type 0
+FilteredMonths F first past x old new = Filled (pos 0) (valueAt F first past x) first past old new
+
+-- how many rows from `row` on serve as many months each, `row` being the first of the rows before the middle one, that one, or the first after it
 unfoldable pub alike : ℕ → ℕ → ℕ
 alike side row = cond (eqb row side) 1 side
 
--- and how many months each of them serves from month lo on: a step of them, the middle row all that are left but those of the rows after it
+-- and how many months each of these serves, from month lo on: `step` of them, the middle row all that are left but those of the rows after it
 unfoldable pub monthsEach : ℕ → ℕ → ℕ → ℕ → ℕ → ℕ
 monthsEach side step row lo past = cond (eqb row side) (past - side * step - lo) step
 

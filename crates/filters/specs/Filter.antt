@@ -1,4 +1,5 @@
--- METHOD 2.1: one filter for every table of rows, rounded, and exact (METHOD 6.1). Place t of a list is month t of the series.
+-- METHOD 2.1: one filter for every table of rows, rounded, and exact (METHOD 6.1). t counts the places of the list that is filtered: of a series or a
+-- slice of n entries these are its months; a list of SI1 or R1 has month 6 at place 0 (steps/ByMonth says these by month).
 use mathlib.Core.List.{List}
 use Prim.Native.Nat.{ℕ, _+_, _*_, _-_, _/_, min}
 use lib.ListN.{length}
@@ -16,7 +17,8 @@ dot m w x from step = wsum m w (λ k. x ‼ (from + k * step))
 unfoldable pub rowFor : Table → ℕ → ℕ → ℕ
 rowFor F b a = b + (F .side - a)
 
--- METHOD 2.1 and 2.3: the weighted sum of month t by that row, of the values at t and whole steps away: b steps before t, .., a steps after it
+-- METHOD 2.1 and 2.3: the weighted sum of month t by that row. Its values stand one step apart, the first b steps before t, the last a steps after it;
+-- of a seasonal filter a step is twelve months
 unfoldable pub weightedSum : Table → ℕ → ℕ → List ℤ → ℕ → ℤ
 weightedSum F b a x t = dot (b + 1 + a) (rowWeight F (rowFor F b a)) x (t - b * F .step) (F .step)
 
@@ -29,8 +31,8 @@ byRow F b a x t = toGrain (weightedSum F b a x t) (denominator F (rowFor F b a))
 unfoldable pub exactByRow : Table → ℕ → ℕ → ℕ → List ℤ → ℕ → ℤ
 exactByRow F L b a x t = pos (L / denominator F (rowFor F b a)) *ℤ weightedSum F b a x t
 
--- METHOD 2.1 and 2.3: of a table that has the months from `first` to below `past`, how many values precede month t and how many follow it that a
--- row can take. Each place of a run of six values, which 72 months give, has three on one side; SI1 has runs of five at least, whose places have
+-- METHOD 2.1 and 2.3: of values that stand at the months from `first` to below `past` and nowhere else, how many precede month t and how many follow
+-- it, one step apart, as far as a row can take them. Each place of a run of six values, which 72 months give, has three on one side; SI1 has runs of five at least, whose places have
 -- two on one side, enough for 3×3; Henderson's 23 terms ask for 22 months: no place is short on both sides
 unfoldable pub earlier : Table → ℕ → ℕ → ℕ
 earlier F first t = min ((t - first) / F .step) (F .side)
@@ -38,21 +40,21 @@ earlier F first t = min ((t - first) / F .step) (F .side)
 unfoldable pub later : Table → ℕ → ℕ → ℕ
 later F past t = min ((past - 1 - t) / F .step) (F .side)
 
--- the filter of such a table at month t
+-- the filter of such values at month t
 unfoldable pub valueAt : Table → ℕ → ℕ → List ℤ → ℕ → ℤ
 valueAt F first past x t = byRow F (earlier F first t) (later F past t) x t
 
 unfoldable pub exactAt : Table → ℕ → ℕ → ℕ → List ℤ → ℕ → ℤ
 exactAt F L first past x t = exactByRow F L (earlier F first t) (later F past t) x t
 
--- the filter at every month of a series
+-- the filter at every place of a list
 unfoldable pub filter : Table → List ℤ → List ℤ
 filter F x = tab (length x) (valueAt F 0 (length x) x)
 
 unfoldable pub exact : Table → ℕ → List ℤ → List ℤ
 exact F L x = tab (length x) (exactAt F L 0 (length x) x)
 
--- METHOD 2.2: the filter at the months with `side` values on each side only: place 0 of the result is the first of these
+-- METHOD 2.2: the filter at the places with `side` values on each side only: place 0 of the result is the first of these
 unfoldable pub reach : Table → ℕ
 reach F = F .side * F .step
 

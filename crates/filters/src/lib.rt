@@ -1,4 +1,4 @@
-// METHOD 2: every moving average, by one filter over constant rows.
+// METHOD 2: every moving average, by one filter over constant rows; the sum of 2x12, which has one row, slides.
 ghost use mathlib.Core.Path.{_≡_};
 ghost use Prim.Native.Nat.{_+_, _*_, _-_, _≤_, _<_, min};
 ghost use mathlib.Core.List.{[]};
@@ -14,20 +14,34 @@ ghost use Rattle.rows.specs.Table.{denominator};
 ghost use Rattle.rows.specs.declared.Terms.the-variants.{Nine, Thirteen, TwentyThree};
 ghost use Rattle.rows.specs.FilterTables.{table2x12, table3x3, table3x5, tableHenderson};
 ghost use Rattle.filters.specs.Filter.{dot, byRow, valueAt, filter};
-ghost use Rattle.filters.specs.Contracts.{tableOf, tableWith, runTable, largestOver, Dots, Filterable, FilterableMonths, Readable, Served, Serves, inTurn, ServeInTurn, FiltersMonths, alike, monthsEach, Slides, sum2x12};
-use rows::Shape;
+ghost use Rattle.filters.specs.Contracts.{tableOf, tableWith, runTable, largestOver, Dots, Filterable, FilterableMonths, Readable, Served, Serves, inTurn, ServeInTurn, CanFilter, FilteredMonths, alike, monthsEach, Slides, sum2x12};
 use rows::Terms;
+use rows::henderson_9::MIDDLE_HENDERSON_9;
 use rows::henderson_9::ROWS_HENDERSON_9;
-use rows::henderson_9::SHAPE_HENDERSON_9;
+use rows::henderson_9::SIDE_HENDERSON_9;
+use rows::henderson_13::MIDDLE_HENDERSON_13;
 use rows::henderson_13::ROWS_HENDERSON_13;
-use rows::henderson_13::SHAPE_HENDERSON_13;
+use rows::henderson_13::SIDE_HENDERSON_13;
+use rows::henderson_23::MIDDLE_HENDERSON_23;
 use rows::henderson_23::ROWS_HENDERSON_23;
-use rows::henderson_23::SHAPE_HENDERSON_23;
+use rows::henderson_23::SIDE_HENDERSON_23;
+use rows::mean_rows::OVER_3X3;
+use rows::mean_rows::OVER_3X5;
 use rows::mean_rows::ROW_2X12;
 use rows::mean_rows::ROWS_3X3;
 use rows::mean_rows::ROWS_3X5;
-use rows::mean_rows::SHAPE_3X3;
-use rows::mean_rows::SHAPE_3X5;
+use rows::mean_rows::SIDE_3X3;
+use rows::mean_rows::SIDE_3X5;
+
+// The shape of a filter's rows: `side` values on each side of a full row, `step` months apart; rows of `width` places; the denominator of the
+// middle row and that of the others.
+struct Shape {
+    side: usize,
+    step: usize,
+    width: usize,
+    middle: usize,
+    ends: usize,
+}
 
 // The lesser of two numbers.
 fn least(a: usize, b: usize) -> usize
@@ -71,8 +85,8 @@ fn by_row(f: Shape, rows: &[i64], x: &[i64], earlier: usize, later: usize, t: us
     ensures { λ r. ⌜ r ≡ byRow (tableOf f (now (rows .entry))) earlier later (now (x .entry)) t ⌝ }
 {
     let row = earlier + (f.side - later);
-    let first = t - earlier * f.step;
-    let sum = dot(rows, row * f.width, earlier + 1 + later, x, first, f.step);
+    let from = t - earlier * f.step;
+    let sum = dot(rows, row * f.width, earlier + 1 + later, x, from, f.step);
     rounded(sum, denominator(f, row))
 }
 
@@ -120,14 +134,14 @@ fn fill_rows(
     }
 }
 
-// How many rows from `row` on serve as many months each: those before the middle one, that one, those after it.
+// How many rows from `row` on serve as many months each, `row` being the first of the rows before the middle one, that one, or the first after it.
 fn alike(side: usize, row: usize) -> usize
     ensures { λ r. ⌜ r ≡ alike side row ⌝ }
 {
     if row == side { 1 } else { side }
 }
 
-// How many months each of them serves from month lo on: a step of them, the middle row all that are left but those of the rows after it.
+// How many months each of these rows serves, from month lo on: `step` of them, the middle row all that are left but those of the rows after it.
 fn months_each(side: usize, step: usize, row: usize, lo: usize, past: usize) -> usize
     requires { ⌜ (lo + side * step ≤ past) × (past ≤ mostMonths) ⌝ }
     ensures { λ r. ⌜ r ≡ monthsEach side step row lo past ⌝ }
@@ -139,8 +153,8 @@ fn months_each(side: usize, step: usize, row: usize, lo: usize, past: usize) -> 
     }
 }
 
-// METHOD 2.1: the filter at each month t from `first` to below `past`, the months that the table in x has. The rest of out stays. The shape passes
-// as numbers, which the compiler then knows (docs/DECISIONS.md, 24).
+// METHOD 2.1: the filter at each month t from `first` to below `past`, where the values in x stand. The rest of out stays. The shape passes as
+// numbers, which the compiler then knows (docs/DECISIONS.md, 24).
 fn fill_months(
     side: usize,
     step: usize,
@@ -152,9 +166,8 @@ fn fill_months(
     x: &[i64],
     out: &mut [i64],
 )
-    requires { ⌜ FiltersMonths (tableWith side step middle ends (now rows)) first past (now x) × (length (now out) ≡ length (now x)) ⌝ }
-    ensures { λ _. ⌜ Filled (pos 0) (valueAt (tableWith side step middle ends (now (rows .entry))) first past (now (x .entry))) first past
-        (now (out .entry)) (now (out .exit)) ⌝ }
+    requires { ⌜ CanFilter (tableWith side step middle ends (now rows)) first past (now x) × (length (now out) ≡ length (now x)) ⌝ }
+    ensures { λ _. ⌜ FilteredMonths (tableWith side step middle ends (now (rows .entry))) first past (now (x .entry)) (now (out .entry)) (now (out .exit)) ⌝ }
 {
     let f = Shape {
         side: side,
@@ -174,8 +187,8 @@ fn fill_months(
     }
 }
 
-// METHOD 2.3: the month-run step. At each month t from `first` to below `past` out gets the rounded sum of the values at t and whole twelves away
-// within these months, read where they stand in x, by the row for so many before and after. Nothing else is written.
+// METHOD 2.3: the month-run step. At each month t from `first` to below `past` out gets the rounded sum of the values of t's run within these
+// months, every twelfth from t, read where they stand in x, by the row for so many before and after. Nothing else is written.
 fn month_runs(
     side: usize,
     over: usize,
@@ -185,9 +198,8 @@ fn month_runs(
     x: &[i64],
     out: &mut [i64],
 )
-    requires { ⌜ FiltersMonths (runTable side over (now rows)) first past (now x) × (length (now out) ≡ length (now x)) ⌝ }
-    ensures { λ _. ⌜ Filled (pos 0) (valueAt (runTable side over (now (rows .entry))) first past (now (x .entry))) first past
-        (now (out .entry)) (now (out .exit)) ⌝ }
+    requires { ⌜ CanFilter (runTable side over (now rows)) first past (now x) × (length (now out) ≡ length (now x)) ⌝ }
+    ensures { λ _. ⌜ FilteredMonths (runTable side over (now (rows .entry))) first past (now (x .entry)) (now (out .entry)) (now (out .exit)) ⌝ }
 {
     fill_months(
         side,
@@ -210,7 +222,8 @@ fn next_sum(sum: i64, x: &[i64], i: usize) -> i64
     sum + (x[i + 11] + x[i + 12] - (x[i - 1] + x[i]))
 }
 
-// METHOD 2.2: 2x12 at the months with six on each side, of a table that has those from `first` to below `past`. Its row is read for the first of them.
+// METHOD 2.2: 2x12 of values at the months from `first` to below `past`, where six of them stand on each side. Its row is read for the first month,
+// and the sum slides from there.
 pub fn two_by_twelve(first: usize, past: usize, x: &[i64], out: &mut [i64])
     requires { ⌜ FilterableMonths first past (now x) × (first + 13 ≤ past) × (length (now out) ≡ length (now x)) ⌝ }
     ensures { λ _. ⌜ Filled (pos 0) (valueAt table2x12 first past (now (x .entry))) (first + 6) (past - 6) (now (out .entry)) (now (out .exit)) ⌝ }
@@ -226,33 +239,17 @@ pub fn two_by_twelve(first: usize, past: usize, x: &[i64], out: &mut [i64])
 // METHOD 2.3: 3x3 of each month's run.
 pub fn three_by_three(first: usize, past: usize, x: &[i64], out: &mut [i64])
     requires { ⌜ FilterableMonths first past (now x) × (first + 48 ≤ past) × (length (now out) ≡ length (now x)) ⌝ }
-    ensures { λ _. ⌜ Filled (pos 0) (valueAt table3x3 first past (now (x .entry))) first past (now (out .entry)) (now (out .exit)) ⌝ }
+    ensures { λ _. ⌜ FilteredMonths table3x3 first past (now (x .entry)) (now (out .entry)) (now (out .exit)) ⌝ }
 {
-    month_runs(
-        SHAPE_3X3.side,
-        SHAPE_3X3.ends,
-        &ROWS_3X3,
-        first,
-        past,
-        x,
-        out,
-    );
+    month_runs(SIDE_3X3, OVER_3X3, &ROWS_3X3, first, past, x, out);
 }
 
 // METHOD 2.4: 3x5 of each month's run.
 pub fn three_by_five(first: usize, past: usize, x: &[i64], out: &mut [i64])
     requires { ⌜ FilterableMonths first past (now x) × (first + 72 ≤ past) × (length (now out) ≡ length (now x)) ⌝ }
-    ensures { λ _. ⌜ Filled (pos 0) (valueAt table3x5 first past (now (x .entry))) first past (now (out .entry)) (now (out .exit)) ⌝ }
+    ensures { λ _. ⌜ FilteredMonths table3x5 first past (now (x .entry)) (now (out .entry)) (now (out .exit)) ⌝ }
 {
-    month_runs(
-        SHAPE_3X5.side,
-        SHAPE_3X5.ends,
-        &ROWS_3X5,
-        first,
-        past,
-        x,
-        out,
-    );
+    month_runs(SIDE_3X5, OVER_3X5, &ROWS_3X5, first, past, x, out);
 }
 
 // Henderson's 9 terms, with Musgrave's ends.
@@ -262,10 +259,10 @@ fn henderson_9(x: &[i64], out: &mut [i64])
 {
     let n = x.len();
     fill_months(
-        SHAPE_HENDERSON_9.side,
-        SHAPE_HENDERSON_9.step,
-        SHAPE_HENDERSON_9.middle,
-        SHAPE_HENDERSON_9.ends,
+        SIDE_HENDERSON_9,
+        1,
+        MIDDLE_HENDERSON_9,
+        rows::ENDS_HENDERSON,
         &ROWS_HENDERSON_9,
         0,
         n,
@@ -281,10 +278,10 @@ fn henderson_13(x: &[i64], out: &mut [i64])
 {
     let n = x.len();
     fill_months(
-        SHAPE_HENDERSON_13.side,
-        SHAPE_HENDERSON_13.step,
-        SHAPE_HENDERSON_13.middle,
-        SHAPE_HENDERSON_13.ends,
+        SIDE_HENDERSON_13,
+        1,
+        MIDDLE_HENDERSON_13,
+        rows::ENDS_HENDERSON,
         &ROWS_HENDERSON_13,
         0,
         n,
@@ -300,10 +297,10 @@ fn henderson_23(x: &[i64], out: &mut [i64])
 {
     let n = x.len();
     fill_months(
-        SHAPE_HENDERSON_23.side,
-        SHAPE_HENDERSON_23.step,
-        SHAPE_HENDERSON_23.middle,
-        SHAPE_HENDERSON_23.ends,
+        SIDE_HENDERSON_23,
+        1,
+        MIDDLE_HENDERSON_23,
+        rows::ENDS_HENDERSON,
         &ROWS_HENDERSON_23,
         0,
         n,

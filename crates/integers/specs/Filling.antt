@@ -1,4 +1,4 @@
--- A slice that is filled from a place on.
+-- A slice that is filled from one place to below another, the rest as it was.
 use Prim.Native.Nat.{ℕ, _≤_, _<_}
 use mathlib.Core.Path.{_≡_}
 use mathlib.Core.Logic.{_⊎_}

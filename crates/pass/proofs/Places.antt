@@ -8,7 +8,6 @@ use native.Mathlib.Omega.{arith}
 use lib.ListN.{length, List·getD-eq-default}
 use lib.Seq.{ext-getD}
 use lib.IntN.{ℤ, pos, _-ℤ_}
-use borrow.Author.Tests.{lt-ltb, le-ltb}
 use Rattle.integers.specs.Sizes.{_within_}
 use Rattle.integers.specs.Lists.{_‼_, tab, AllWithin}
 use Rattle.integers.specs.Filling.{Filled}
@@ -22,7 +21,7 @@ use Rattle.filters.proofs.Lengths.{length-filter}
 use Rattle.filters.proofs.ByMonth.{MonthsOf}
 use Rattle.steps.specs.Places.{inner, nearestMonth, copied, widened}
 use Rattle.steps.proofs.Lengths.{length-inner}
-use Rattle.steps.proofs.ByMonth.{inner-months, filter-by-month, level-by-month}
+use Rattle.steps.proofs.ByMonth.{inner-months, filter-by-month, level-by-month, copied-first, copied-own, copied-last}
 use Rattle.pass.specs.Contracts.{along, LessAlong, Copies, Levels, withoutLevelAt, withoutLevel}
 
 -- ---- the level in three stretches: the first repeated, each in turn, the last repeated
@@ -90,17 +89,16 @@ unfolding along
 copied-apart c t l u = ⊎-elim (λ p. inl (omega (arith, p))) (λ p. inr (omega (arith, p))) (c .apart)
 
 module _ (h n t : ℕ) where
-  copied-first : t < h → h + copied h n t ≡ along (2 * h) 1 0 t
-  unfolding copied along
-  copied-first l = rw (lt-ltb t h l) (omega arith)
+  takes-first : t < h → h + copied h n t ≡ along (2 * h) 1 0 t
+  unfolding along
+  takes-first l = omega (arith, copied-first h n t l)
 
-  copied-own : h ≤ t → t < n - h → h + copied h n t ≡ t
-  unfolding copied
-  copied-own l i = rw (le-ltb t h l, lt-ltb t (n - h) i) (omega arith)
+  takes-own : h ≤ t → t < n - h → h + copied h n t ≡ t
+  takes-own l i = omega (arith, copied-own h n t l i)
 
-  copied-last : 4 * h ≤ n → n - h ≤ t → h + copied h n t ≡ along (n - 3 * h) 1 (n - h) t
-  unfolding copied along
-  copied-last l i = rw (le-ltb t h (omega arith), le-ltb t (n - h) i) (omega arith)
+  takes-last : 4 * h ≤ n → n - h ≤ t → h + copied h n t ≡ along (n - 3 * h) 1 (n - h) t
+  unfolding along
+  takes-last l i = omega (arith, copied-last h n t (omega arith) i)
 
 module _ (h n : ℕ) (long : 4 * h ≤ n) where
   pub first-copies : Copies (2 * h) 0 h n
@@ -117,9 +115,9 @@ module _ (h n : ℕ) (long : 4 * h ≤ n) where
 
     copies-at : (t : ℕ) → t < n → Dec (h ≤ t) → Dec (n - h ≤ t) → b ‼ t ≡ inner h old ‼ copied h n t
     unfolding along
-    copies-at t l (no p) q = v .rest t (inl (omega arith)) ∙ u .here t (omega arith) (omega arith) ∙ copies t _ (copied-first h n t (omega arith)) (omega arith)
-    copies-at t l (yes p) (no q) = v .rest t (inl (omega arith)) ∙ u .rest t (inr p) ∙ copies t t (copied-own h n t p (omega arith)) (omega arith)
-    copies-at t l (yes p) (yes q) = v .here t q l ∙ u .rest _ (inr (omega arith)) ∙ copies t _ (copied-last h n t long q) (omega arith)
+    copies-at t l (no p) q = v .rest t (inl (omega arith)) ∙ u .here t (omega arith) (omega arith) ∙ copies t _ (takes-first h n t (omega arith)) (omega arith)
+    copies-at t l (yes p) (no q) = v .rest t (inl (omega arith)) ∙ u .rest t (inr p) ∙ copies t t (takes-own h n t p (omega arith)) (omega arith)
+    copies-at t l (yes p) (yes q) = v .here t q l ∙ u .rest _ (inr (omega arith)) ∙ copies t _ (takes-last h n t long q) (omega arith)
 
     pub copies-filled : b ≡ widened h (inner h old)
     unfolding widened pick

@@ -62,7 +62,7 @@ module _ {c : Choices} (ok : Sound c) {x : List ℤ} (s : PassSeries (c .halfYea
   -- ---- steps 1 to 4
   -- t1 is filled with T1, si with SI1
   by-month1 : ByMonth c x
-  by-month1 = by-months ok x (omega (arith, s .long, ok .year-least))
+  by-month1 = by-months c x (ok .reach-is) (omega (arith, s .long, ok .year-least))
 
   pub to-t1 : {old t1 : List ℤ} → Filled (pos 0) (valueAt (c .yearly .table) 0 (length x) x) (c .halfYear) (length x - c .halfYear) old t1
       → Filled (pos 0) (atMonth (c .halfYear) (T1 c x)) (c .halfYear) (length x - c .halfYear) old t1
@@ -78,11 +78,11 @@ module _ {c : Choices} (ok : Sound c) {x : List ℤ} (s : PassSeries (c .halfYea
 
   -- si is filled with SI1 as it is filtered
   pub si1-stands : {old si : List ℤ} → length old ≡ length x → Filled (pos 0) (atMonth (c .halfYear) (filteredSI1 c x)) (c .halfYear) (length x - c .halfYear) old si
-      → Stands (c .halfYear) x (filteredSI1 c x) si
+      → Stands (c .halfYear) (length x) (filteredSI1 c x) si
   si1-stands e u = record { long = u .long ∙ e; months = inner-is (u .long ∙ e) (months-filled (length-replaced1 c x ∙ omega arith) u (λ t l i. refl)) }
 
   -- si has SI1 as it is filtered, at its own months
-  module _ {si : List ℤ} (e : Stands (c .halfYear) x (replaced (c .halfYear) (c .replacing1) (SI1 c x)) si) where
+  module _ {si : List ℤ} (e : Stands (c .halfYear) (length x) (replaced (c .halfYear) (c .replacing1) (SI1 c x)) si) where
     pub si1-filterable : FilterableMonths (c .halfYear) (length si - c .halfYear) si
     si1-filterable = rw (e .long) (record {
       short = omega (arith, s .short, e .long);

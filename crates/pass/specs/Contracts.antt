@@ -41,7 +41,7 @@ pub record Work (x a b out : List ℤ) : Type 0 where
 unfoldable pub along : ℕ → ℕ → ℕ → ℕ → ℕ
 along i step lo t = i + step * (t - lo)
 
--- such a stretch of r, and the months of m that are taken from it
+-- such a stretch of r, and the months of m that are subtracted from it
 pub record LessAlong (i step lo hi : ℕ) (r m : List ℤ) : Type 0 where
   pub order : lo ≤ hi
   pub inside : hi ≤ length r
@@ -51,14 +51,14 @@ pub record LessAlong (i step lo hi : ℕ) (r m : List ℤ) : Type 0 where
   pub left : (t : ℕ) → lo ≤ t → t < hi → (r ‼ t) within largest
   pub right : (t : ℕ) → lo ≤ t → t < hi → (m ‼ along i step lo t) within largest
 
--- such a stretch of n months, and the months of the same slice that it copies, which lie before it or after it
+-- such a stretch in a slice of n months, and the months of the slice that it copies, which lie before it or after it
 pub record Copies (i lo hi n : ℕ) : Type 0 where
   pub order : lo ≤ hi
   pub inside : hi ≤ n
   pub from : i + (hi - lo) ≤ n
   pub apart : (i + (hi - lo) ≤ lo) ⊎ (hi ≤ i)
 
--- a table in r that has the months from `first` to below `past`, and in m its 2×12 values, at the months with h on each side
+-- r with values at the months from `first` to below `past`, and in m their 2×12, at the months with h on each side
 pub record Levels (h first past : ℕ) (r m : List ℤ) : Type 0 where
   pub long : first + (2 * h + 1) ≤ past
   pub inside : past ≤ length r
@@ -67,11 +67,11 @@ pub record Levels (h first past : ℕ) (r m : List ℤ) : Type 0 where
   pub left : (t : ℕ) → first ≤ t → t < past → (r ‼ t) within largest
   pub right : (t : ℕ) → first + h ≤ t → t < past - h → (m ‼ t) within largest
 
--- month t of such a table less its level: its 2×12, by the rows F, with the first and the last value repeated at the ends
+-- month t of r less its level: the 2×12 of r, by the rows F, with the first and the last value repeated at the ends
 unfoldable pub withoutLevelAt : ℕ → Table → ℕ → ℕ → List ℤ → ℕ → ℤ
 withoutLevelAt h F first past r t = (r ‼ t) -ℤ valueAt F first past r (nearestMonth h first past t)
 
--- the same of a list, whose place 0 is the table's first month
+-- the same of a list, whose place 0 is the first of these months
 abbrev pub withoutLevel : ℕ → Table → List ℤ → List ℤ
 withoutLevel h F r = minus r (pick (length r) (nearestLevel h (length r)) (inside F r))
 

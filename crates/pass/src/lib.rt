@@ -17,7 +17,7 @@ ghost use Rattle.steps.specs.Places.{inner, atMonth, nearestMonth, widened};
 ghost use Rattle.pass.specs.Contracts.{PassSeries, Work, along, LessAlong, Copies, Levels, withoutLevelAt, withoutLevel, OfSI1, OfSI2, Adjustable, PassDone};
 use rows::Terms;
 
-// r at month t less level i.
+// r at month t less the level at month i.
 fn less_at(r: &[i64], m: &[i64], t: usize, i: usize) -> i64
     requires { ⌜ (t < length (now r)) × (i < length (now m)) × ((now r ‼ t) within largest) × ((now m ‼ i) within largest) ⌝ }
     ensures { λ z. ⌜ z ≡ (now (r .entry) ‼ t) -ℤ (now (m .entry) ‼ i) ⌝ }
@@ -25,7 +25,7 @@ fn less_at(r: &[i64], m: &[i64], t: usize, i: usize) -> i64
     r[t] - m[i]
 }
 
-// r less its levels, at the months from lo to below hi: level i at the first, and at each further month `step` levels on.
+// r less its levels, at the months from lo to below hi: the level at month i for the first, and for each further one that `step` months on.
 fn less_from(r: &[i64], m: &[i64], i: usize, step: usize, lo: usize, hi: usize, out: &mut [i64])
     requires { ⌜ LessAlong i step lo hi (now r) (now m) × (length (now out) ≡ length (now r)) ⌝ }
     ensures { λ _. ⌜ Filled (pos 0) (λ t. (now (r .entry) ‼ t) -ℤ (now (m .entry) ‼ along i step lo t)) lo hi
@@ -76,7 +76,7 @@ pub fn without_level(first: usize, past: usize, r: &[i64], m: &mut [i64], out: &
     less_level(first, past, r, m, out);
 }
 
-// Steps 1 and 2: T1 and SI1 of x, at their own months from 6 to n - 7; the six months at each end that they have not hold what they held.
+// Steps 1 and 2: T1 and SI1 of x, at their own months from 6 to n - 7; the six months at each end are none of theirs, and stay as they were.
 pub fn first_si(x: &[i64], t1: &mut [i64], si: &mut [i64])
     requires { ⌜ PassSeries 6 (now x) × (length (now t1) ≡ length (now x)) × (length (now si) ≡ length (now x)) ⌝ }
     ensures { λ _. ⌜ Filled (pos 0) (atMonth 6 (T1 plainMonthly (now (x .entry)))) 6 (length (now (x .entry)) - 6) (now (t1 .entry)) (now (t1 .exit))

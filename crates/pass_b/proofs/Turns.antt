@@ -110,10 +110,10 @@ module _ {start : ℕ} {x : List ℤ} (h : PassBSeries start x) where
   sound = monthly-sound _ _
 
   -- steps 1 and 2: the slice b has SI1 at its own months, and a its 3×3
-  pub si1-stands : {o b : List ℤ} → Filled (pos 0) (atMonth 6 (SI1 plainMonthly x)) 6 (length x - 6) o b → length o ≡ length x → Stands 6 x (SI1 plainMonthly x) b
+  pub si1-stands : {o b : List ℤ} → Filled (pos 0) (atMonth 6 (SI1 plainMonthly x)) 6 (length x - 6) o b → length o ≡ length x → Stands 6 (length x) (SI1 plainMonthly x) b
   si1-stands f o = stages.si1-stands plain-sound series o f
 
-  module _ {b : List ℤ} (e : Stands 6 x (SI1 plainMonthly x) b) where
+  module _ {b : List ℤ} (e : Stands 6 (length x) (SI1 plainMonthly x) b) where
     pub si1-months : FilterableMonths 6 (length x - 6) b
     si1-months = rw (e .long) at (stages.si1-filterable plain-sound series e)
 
@@ -145,7 +145,7 @@ module _ {start : ℕ} {x : List ℤ} (h : PassBSeries start x) where
 
   -- the slice a has SI1 as it is replaced at its own months
   pub replaced1-stands : {o a : List ℤ} → Filled (pos 0) (atMonth 6 (replacedBy monthsOfYear (weightsB4 start x) (SI1 plainMonthly x))) 6 (length x - 6) o a → length o ≡ length x
-      → Stands 6 x (replacedBy monthsOfYear (weightsB4 start x) (SI1 (choicesB4 start x) x)) a
+      → Stands 6 (length x) (replacedBy monthsOfYear (weightsB4 start x) (SI1 (choicesB4 start x) x)) a
   replaced1-stands {o} {a} f e =
       stages.si1-stands sound4 series e
       (subst (λ (l : List ℤ). Filled (pos 0) (atMonth 6 (replacedBy monthsOfYear (weightsB4 start x) l)) 6 (length x - 6) o a) (same-si1 average3x5 (byWeights (weightsB4 start x)) none x) f)

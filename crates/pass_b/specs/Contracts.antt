@@ -32,7 +32,7 @@ pub record PassBSlices (n : ℕ) (a b t s : List ℤ) (w : List ℕ) : Type 0 wh
 abbrev pub largestSI : ℕ
 largestSI = largestB1 + largestB7
 
--- SI1 or SI2, from the calendar month of its first, and its 3×3 or 3×5 in r; t and s to work in, w for the weights
+-- SI1 or SI2, its own months alone, from the calendar month of the first, and its 3×3 or 3×5 in r; t and s to work in, w for the weights
 pub record Weighs (start : ℕ) (si r t s : List ℤ) (w : List ℕ) : Type 0 where
   pub calendar : Calendar start monthsOfYear (length si)
   pub si-small : AllWithin largestSI si

@@ -28,8 +28,8 @@ fn weigh(si: &[i64], start: u8, r: &mut [i64], t: &mut [i64], s: &mut [i64], w: 
     extremes::weights(r, start, refusals::MONTHS_OF_YEAR as u8, t, s, w);
 }
 
-// Steps 1 and 2: SI1 of x, replaced, in a, at its own months from 6 to n - 7; the six months at each end that it has not hold what they held. The
-// weighing and the replacing are lent these months alone: they count from the first month of what they are lent.
+// Steps 1 and 2: SI1 of x, replaced, in a, at its own months from 6 to n - 7; the six months at each end are none of its own, and stay as they were.
+// The weighing and the replacing are lent the months of SI1 alone, and count from the first of them.
 fn replaced_si1(
     x: &[i64],
     start: u8,
@@ -46,10 +46,10 @@ fn replaced_si1(
     let past = x.len() - 6;
     pass::first_si(x, a, b);
     filters::three_by_three(6, past, b, a);
-    let first = extremes::month_of(start, refusals::MONTHS_OF_YEAR as u8, 6);
+    let start_b4 = extremes::month_of(start, refusals::MONTHS_OF_YEAR as u8, 6);
     weigh(
         &b[6..past],
-        first,
+        start_b4,
         &mut a[6..past],
         &mut t[6..past],
         &mut s[6..past],

@@ -3,11 +3,11 @@ use mathlib.Core.Path.{_≡_}
 use mathlib.Core.Bool.{cond}
 use mathlib.Core.List.{List, [], _∷_, map}
 use Prim.Native.Nat.{ℕ, _+_, _*_, _-_, _%_}
-use lib.Dec.{eqb}
+use lib.Dec.{ltb, eqb}
 use lib.IntN.{ℤ, pos, negsuc, negℤ}
 use Rattle.integers.specs.Lists.{_‼_, tab}
 use Rattle.integers.specs.Rounding.{toGrain}
-use Rattle.filters.specs.Filter.{filter, inside}
+use Rattle.filters.specs.Filter.{valueAt, filter, inside}
 use Rattle.rows.specs.declared.Terms.{Terms}
 use Rattle.rows.specs.declared.Terms.the-variants.{Nine, Thirteen, TwentyThree}
 use Rattle.rows.specs.FilterTables.{table2x12, table3x3, table3x5, tableHenderson}
@@ -37,6 +37,10 @@ at x places = map (λ t. x ‼ t) places
 
 abbrev whole : List ℕ → List ℤ
 whole = map pos
+
+-- 3×3 of values at the months from 6 to 68 of 75, v at month c and else 0, with a million at every month outside: at some months
+abbrev by3x3 : ℕ → ℕ → List ℕ → List ℤ
+by3x3 c v months = map (valueAt table3x3 6 69 (tab 75 (λ t. cond (ltb t 6) (pos 1_000_000) (cond (ltb t 69) (cond (eqb t c) (pos v) (pos 0)) (pos 1_000_000))))) months
 
 -- the 2×12 value of place t stands at t - 6
 abbrev at2x12 : List ℤ → List ℕ → List ℤ
@@ -113,6 +117,10 @@ pencil =
     ∷ (hendersonFirst TwentyThree 11 gives outermost23)
     -- 3×3, the last value of a run 27,000: the last three results. The run of places 11, 23, .. ends with 35, 47, 59, 71
     ∷ (at (filter table3x3 (one 71 27_000)) (47 ∷ 59 ∷ 71 ∷ []) gives whole (3000 ∷ 7000 ∷ 11_000 ∷ []))
+    -- 3×3 by month, where the months from 6 to 68 have values: 27,000 at the first of the run of 12, and at the last of the runs of 8 and 12
+    ∷ (by3x3 12 27_000 (12 ∷ 24 ∷ 36 ∷ []) gives whole (11_000 ∷ 7000 ∷ 3000 ∷ []))
+    ∷ (by3x3 68 27_000 (44 ∷ 56 ∷ 68 ∷ []) gives whole (3000 ∷ 7000 ∷ 11_000 ∷ []))
+    ∷ (by3x3 60 27_000 (36 ∷ 48 ∷ 60 ∷ []) gives whole (3000 ∷ 7000 ∷ 11_000 ∷ []))
     -- 3×5, the last value of a run 60,000: the last four results
     ∷ (at (filter table3x5 (one 71 60_000)) (35 ∷ 47 ∷ 59 ∷ 71 ∷ []) gives whole (4000 ∷ 9000 ∷ 15_000 ∷ 17_000 ∷ []))
     -- rounding to a grain: 1/2 and -1/2 to 0, 3/2 to 2, -3/2 to -2

@@ -1,5 +1,4 @@
 // METHOD 2.5 and 2.6: Henderson's 13 terms over 16,796, between Musgrave's six rows for the start and six for the end, in millionths.
-use super::Shape;
 
 pub const ROWS_HENDERSON_13: [i64; 169] = [
     // none before
@@ -186,10 +185,7 @@ pub const ROWS_HENDERSON_13: [i64; 169] = [
     0,
 ];
 
-pub const SHAPE_HENDERSON_13: Shape = Shape {
-    side: 6,
-    step: 1,
-    width: 13,
-    middle: 16796,
-    ends: 1000000,
-};
+// How many values a full row takes on each side, and the denominator of the middle row.
+pub const SIDE_HENDERSON_13: usize = 6;
+
+pub const MIDDLE_HENDERSON_13: usize = 16796;

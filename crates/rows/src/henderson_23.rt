@@ -1,5 +1,4 @@
 // METHOD 2.5 and 2.6: Henderson's 23 terms, between Musgrave's eleven rows for the start and eleven for the end, all in millionths.
-use super::Shape;
 
 pub const ROWS_HENDERSON_23: [i64; 529] = [
     // none before
@@ -556,10 +555,7 @@ pub const ROWS_HENDERSON_23: [i64; 529] = [
     0,
 ];
 
-pub const SHAPE_HENDERSON_23: Shape = Shape {
-    side: 11,
-    step: 1,
-    width: 23,
-    middle: 1000000,
-    ends: 1000000,
-};
+// How many values a full row takes on each side, and the denominator of the middle row.
+pub const SIDE_HENDERSON_23: usize = 11;
+
+pub const MIDDLE_HENDERSON_23: usize = 1000000;

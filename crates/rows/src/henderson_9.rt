@@ -1,5 +1,4 @@
 // METHOD 2.5 and 2.6: Henderson's 9 terms over 2,431, between Musgrave's four rows for the start and four for the end, in millionths.
-use super::Shape;
 
 pub const ROWS_HENDERSON_9: [i64; 81] = [
     // none before
@@ -94,10 +93,7 @@ pub const ROWS_HENDERSON_9: [i64; 81] = [
     0,
 ];
 
-pub const SHAPE_HENDERSON_9: Shape = Shape {
-    side: 4,
-    step: 1,
-    width: 9,
-    middle: 2431,
-    ends: 1000000,
-};
+// How many values a full row takes on each side, and the denominator of the middle row.
+pub const SIDE_HENDERSON_9: usize = 4;
+
+pub const MIDDLE_HENDERSON_9: usize = 2431;

@@ -1,6 +1,6 @@
 // METHOD 2.2 to 2.4: the stored rows of 2x12, 3x3 and 3x5, oldest value first: the rows for the start of a run, the middle row, the rows for its
-// end. The shorter rows are filled up with zeros.
-use super::Shape;
+// end. The shorter rows are filled up with zeros. Beside those of 3x3 and 3x5: how many values a full row takes on each side, and the denominator
+// of every row.
 
 // 2x12, in 24ths.
 pub const ROW_2X12: [i64; 13] = [1, 2, 2, 2, 2, 2, 2, 2, 2, 2, 2, 2, 1];
@@ -39,13 +39,9 @@ pub const ROWS_3X3: [i64; 25] = [
     0,
 ];
 
-pub const SHAPE_3X3: Shape = Shape {
-    side: 2,
-    step: 12,
-    width: 5,
-    middle: 27,
-    ends: 27,
-};
+pub const SIDE_3X3: usize = 2;
+
+pub const OVER_3X3: usize = 27;
 
 // 3x5, in 60ths.
 pub const ROWS_3X5: [i64; 49] = [
@@ -107,10 +103,6 @@ pub const ROWS_3X5: [i64; 49] = [
     0,
 ];
 
-pub const SHAPE_3X5: Shape = Shape {
-    side: 3,
-    step: 12,
-    width: 7,
-    middle: 60,
-    ends: 60,
-};
+pub const SIDE_3X5: usize = 3;
+
+pub const OVER_3X5: usize = 60;

@@ -1,4 +1,4 @@
--- What the steps do with a series beside filtering it. A series is a list: place t is month t.
+-- What the steps do with a series beside filtering it. A series is a list, oldest month first.
 use mathlib.Core.List.{List, [], _∷_}
 use Prim.Native.Nat.{ℕ, _+_, _-_}
 use lib.ListN.{length}

@@ -6,6 +6,7 @@ use native.Mathlib.Omega.{arith}
 use lib.ListN.{length, take, drop, length-take, length-drop}
 use lib.Seq.{getD-take, getD-drop}
 use lib.IntN.{ℤ, pos, _-ℤ_}
+use borrow.Author.Tests.{lt-ltb, le-ltb}
 use Rattle.integers.specs.Sizes.{_within_}
 use Rattle.integers.specs.Lists.{_‼_, AllWithin}
 use Rattle.integers.proofs.FillingLaws.{at-tab, tab-same}
@@ -15,11 +16,10 @@ use Rattle.series.proofs.Lengths.{at-minus}
 use Rattle.filters.specs.Filter.{valueAt, filter, reach, inside}
 use Rattle.filters.proofs.ByMonth.{MonthsOf, by-month}
 use Rattle.steps.specs.Choices.{Choices}
-use Rattle.steps.specs.Places.{inner, atMonth, nearestMonth, nearestLevel}
-use Rattle.steps.specs.Steps.{level, T1, SI1, R1, M1}
-use Rattle.steps.specs.ByMonth.{Has, Stands, ByMonth}
-use Rattle.steps.proofs.Sound.{Sound}
-use Rattle.steps.proofs.Lengths.{length-inner}
+use Rattle.steps.specs.Places.{inner, atMonth, nearestMonth, nearestLevel, copied, widened}
+use Rattle.steps.specs.Steps.{level, T1, SI1, R1, M1, innerS1, S1}
+use Rattle.steps.specs.ByMonth.{InnerMonth, Stands, TablesByMonth}
+use Rattle.steps.proofs.Lengths.{length-inner, length-r1, length-innerS1}
 
 at-pick : (n : ℕ) (g : ℕ → ℕ) (x : List ℤ) (i : ℕ) → i < n → pick n g x ‼ i ≡ x ‼ g i
 unfolding pick
@@ -97,30 +97,74 @@ months-within {b} {first} {past} {l} {y} m h t i j =
 
 -- ---- METHOD 3.1 to 3.4 by month
 -- the list that a slice has at its own months
-pub stands-months : {h : ℕ} {x l y : List ℤ} → Stands h x l y → MonthsOf h (length x - h) l y
-stands-months {h} {x} {l} {y} s = rw (← (s .long), ← (s .months)) (inner-months h y)
+pub stands-months : {h n : ℕ} {l y : List ℤ} → Stands h n l y → MonthsOf h (n - h) l y
+stands-months {h} {n} {l} {y} s = rw (← (s .long), ← (s .months)) (inner-months h y)
 
-module _ {c : Choices} (ok : Sound c) (x : List ℤ) (long : 4 * c .halfYear + 1 ≤ length x) where
-  t1-by-month : (t : ℕ) → Has (c .halfYear) (length x) t → atMonth (c .halfYear) (T1 c x) t ≡ valueAt (c .yearly .table) 0 (length x) x t
+-- which of the inner numbers a month takes
+module _ (h n t : ℕ) where
+  pub copied-first : t < h → copied h n t ≡ t + h
+  unfolding copied
+  copied-first l = rw (lt-ltb t h l) (omega arith)
+
+  pub copied-own : h ≤ t → t < n - h → copied h n t ≡ t - h
+  unfolding copied
+  copied-own l i = rw (le-ltb t h l, lt-ltb t (n - h) i)
+
+  pub copied-last : 2 * h ≤ n → n - h ≤ t → copied h n t ≡ t - 3 * h
+  unfolding copied
+  copied-last l i = rw (le-ltb t h (omega arith), le-ltb t (n - h) i) (omega arith)
+
+module _ (c : Choices) (x : List ℤ) (r : reach (c .yearly .table) ≡ c .halfYear) (long : 4 * c .halfYear + 1 ≤ length x) where
+  t1-by-month : (t : ℕ) → InnerMonth (c .halfYear) (length x) t → atMonth (c .halfYear) (T1 c x) t ≡ valueAt (c .yearly .table) 0 (length x) x t
   unfolding T1 inside
   t1-by-month t l =
-      let r = ok .reach-is in
       let e : t - c .halfYear + reach (c .yearly .table) ≡ t = omega (arith, r, l) in
       at-tab (pos 0) (length x - 2 * reach (c .yearly .table)) (λ i. valueAt (c .yearly .table) 0 (length x) x (i + reach (c .yearly .table))) (t - c .halfYear) (omega (arith, r, l))
       ∙ ap (valueAt (c .yearly .table) 0 (length x) x) e
 
-  si1-by-month : (t : ℕ) → Has (c .halfYear) (length x) t → atMonth (c .halfYear) (SI1 c x) t ≡ (x ‼ t) -ℤ atMonth (c .halfYear) (T1 c x) t
+  si1-by-month : (t : ℕ) → InnerMonth (c .halfYear) (length x) t → atMonth (c .halfYear) (SI1 c x) t ≡ (x ‼ t) -ℤ atMonth (c .halfYear) (T1 c x) t
   unfolding SI1
   si1-by-month t l =
       let e : c .halfYear + (t - c .halfYear) ≡ t = omega (arith, l) in
       at-minus (inner (c .halfYear) x) (T1 c x) (t - c .halfYear) (omega (arith, length-inner (c .halfYear) x, l))
       ∙ ap (λ (z : ℤ). z -ℤ (T1 c x ‼ (t - c .halfYear))) (at-inner (c .halfYear) x (t - c .halfYear) (omega (arith, l)) ∙ ap (λ (k : ℕ). x ‼ k) e)
 
-  pub by-months : ByMonth c x
-  unfolding R1 M1 level
-  by-months = record {
-    t1 = t1-by-month;
-    si1 = si1-by-month;
-    r1 = λ si s t l. filter-by-month (c .seasonal1 .table) (stands-months s) t (l .not-before) (l .not-after);
-    m1 = λ r s t l. level-by-month (c .yearly .table) (stands-months s) (c .halfYear) (ok .reach-is) (omega (arith, long)) t (l .not-before) (l .not-after);
-  }
+  -- S1 takes an inner number at every month
+  s1-copies : (t : ℕ) → t < length x → S1 c x ‼ t ≡ innerS1 c x ‼ copied (c .halfYear) (length x) t
+  unfolding S1 widened
+  s1-copies t l =
+      let e : length (innerS1 c x) + 2 * c .halfYear ≡ length x = omega (arith, length-innerS1 c x) in
+      at-pick _ (copied (c .halfYear) (length (innerS1 c x) + 2 * c .halfYear)) (innerS1 c x) t (omega (arith, e))
+      ∙ ap (λ (n : ℕ). innerS1 c x ‼ copied (c .halfYear) n t) e
+
+  -- month t takes the number of month u
+  s1-as : (t u : ℕ) → t < length x → InnerMonth (c .halfYear) (length x) u → copied (c .halfYear) (length x) t ≡ u - c .halfYear → S1 c x ‼ t ≡ S1 c x ‼ u
+  s1-as t u l m e =
+      s1-copies t l ∙ ap (λ (k : ℕ). innerS1 c x ‼ k) (e ∙ sym (copied-own (c .halfYear) (length x) u (m .not-before) (m .not-after)))
+      ∙ sym (s1-copies u (omega (arith, m .not-after)))
+
+  s1-by-month : (t : ℕ) → InnerMonth (c .halfYear) (length x) t → S1 c x ‼ t ≡ atMonth (c .halfYear) (R1 c x) t -ℤ atMonth (c .halfYear) (M1 c x) t
+  unfolding innerS1
+  s1-by-month t l =
+      s1-copies t (omega (arith, l .not-after)) ∙ ap (λ (k : ℕ). innerS1 c x ‼ k) (copied-own (c .halfYear) (length x) t (l .not-before) (l .not-after))
+      ∙ at-minus (R1 c x) (M1 c x) (t - c .halfYear) (omega (arith, length-r1 c x, l .not-before, l .not-after))
+
+  first-from : (t : ℕ) → t < c .halfYear → S1 c x ‼ t ≡ S1 c x ‼ (t + 2 * c .halfYear)
+  first-from t l = s1-as t (t + 2 * c .halfYear) (omega arith) (record { not-before = omega arith; not-after = omega arith })
+      (copied-first (c .halfYear) (length x) t l ∙ omega arith)
+
+  last-from : (t : ℕ) → length x - c .halfYear ≤ t → t < length x → S1 c x ‼ t ≡ S1 c x ‼ (t - 2 * c .halfYear)
+  last-from t l m = s1-as t (t - 2 * c .halfYear) m (record { not-before = omega arith; not-after = omega arith })
+      (copied-last (c .halfYear) (length x) t (omega arith) l ∙ omega arith)
+
+pub by-months : TablesByMonth
+unfolding R1 M1 level
+by-months c x r long = record {
+  t1 = t1-by-month c x r long;
+  si1 = si1-by-month c x r long;
+  r1 = λ si s t l. filter-by-month (c .seasonal1 .table) (stands-months s) t (l .not-before) (l .not-after);
+  m1 = λ y s t l. level-by-month (c .yearly .table) (stands-months s) (c .halfYear) r (omega (arith, long)) t (l .not-before) (l .not-after);
+  s1 = s1-by-month c x r long;
+  s1-first = first-from c x r long;
+  s1-last = last-from c x r long;
+}

@@ -13,11 +13,11 @@ module _ (h : ℕ) where
   unfoldable pub inner : List ℤ → List ℤ
   inner x = pick (length x - 2 * h) (λ i. i + h) x
 
-  -- METHOD 3: month t of such a list, whose place 0 is month 6
+  -- METHOD 3: month t of such a list, whose place 0 is month 6; asked for t from 6 to n - 7 alone
   abbrev pub atMonth : List ℤ → ℕ → ℤ
   atMonth l t = l ‼ (t - h)
 
-  -- METHOD 3.4 and 3.7: of a table that has the months from `first` to below `past`, the month nearest to t that has six of them on each side
+  -- METHOD 3.4 and 3.7: of the months from `first` to below `past`, the one nearest to t that has six of them on each side
   unfoldable pub nearestMonth : ℕ → ℕ → ℕ → ℕ
   nearestMonth first past t = max (first + h) (min t (past - (h + 1)))
 
@@ -26,7 +26,7 @@ module _ (h : ℕ) where
   unfoldable pub nearestLevel : ℕ → ℕ → ℕ
   nearestLevel m i = min (i - h) (m - (2 * h + 1))
 
-  -- METHOD 3.4: which of the numbers for t 6 to n - 7 month t of n takes: the first six months copy that of a year later, the last six that of a
+  -- METHOD 3.4: month t of n takes which of the numbers of months 6 to n - 7: the first six months copy that of a year later, the last six that of a
   -- year earlier
   unfoldable pub copied : ℕ → ℕ → ℕ
   copied n t = cond (ltb t h) (t + 2 * h - h) (cond (ltb t (n - h)) (t - h) (t - 2 * h - h))

@@ -1,5 +1,6 @@
--- METHOD 3: steps 1 to 7 on a series X of n grains, by the choices c; the comments name those of METHOD, where half a year is 6 months. T1, SI1,
--- R1 and M1 stand for t from 6 to n - 7: as lists their place 0 is t = 6, so that the first value of a month's run in SI1 is its first in the list.
+-- METHOD 3: steps 1 to 7 on a series X, n numbers of grains, by the choices c; the comments name those of METHOD, where half a year is 6 months. T1,
+-- SI1, R1, M1 and what is between them have the months from 6 to n - 7: as lists their place 0 is month 6, so that no value of a run comes before place
+-- 0, and months a year apart stay twelve places apart. ByMonth says the same by t.
 use mathlib.Core.List.{List}
 use lib.ListN.{length}
 use lib.IntN.{ℤ}
@@ -29,7 +30,7 @@ module _ (c : Choices) (x : List ℤ) where
   unfoldable pub R1 : List ℤ
   R1 = filter (c .seasonal1 .table) filteredSI1
 
-  -- METHOD 3.4: M1 is 2×12 of R1, worked at t from 12 to n - 13; the first of these values is repeated at t 6 to 11, the last at t n - 12 to n - 7.
+  -- METHOD 3.4: M1 is 2×12 of R1; its first value, that of month 12, stands for months 6 to 11 too, and its last, of month n - 13, for the last six.
   -- S1, the first seasonal, is R1 less M1, at t from 6 to n - 7 (`innerS1`); the first six months copy that of a year later, the last six that of a
   -- year earlier
   unfoldable pub M1 : List ℤ

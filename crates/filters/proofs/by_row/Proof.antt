@@ -34,11 +34,11 @@ sub-row c = c .before .pre .1 .few-after
 add-row : tie.Need-add-row
 add-row c = omega (arith, c .before .pre .1, c .before .pre .0 .side-most)
 
-mul-first : tie.Need-mul-first
-mul-first c = let s = c .before .before in omega (arith, s .pre .1, s .pre .2)
+mul-from : tie.Need-mul-from
+mul-from c = let s = c .before .before in omega (arith, s .pre .1, s .pre .2)
 
-sub-first : tie.Need-sub-first
-sub-first c = c .before .before .pre .1 .before
+sub-from : tie.Need-sub-from
+sub-from c = c .before .before .pre .1 .before
 
 mul-dot : tie.Need-mul-dot
 mul-dot c = omega (arith, the-dots (start3 c) .room)
@@ -76,8 +76,8 @@ by-row-spec =
     (tie.spec
     sub-row
     add-row
-    mul-first
-    sub-first
+    mul-from
+    sub-from
     mul-dot
     add-dot
     add-dot-2

@@ -10,7 +10,7 @@ use Rattle.integers.specs.Filling.{Filled}
 use Rattle.integers.proofs.FillingLaws.{filled-none, filled-on}
 use Rattle.refusals.specs.Limits.{mostMonths}
 use Rattle.filters.specs.Contracts.{mostSide, tableOf, inTurn, rowBefore, rowAfter}
-use Rattle.filters.proofs.Stretches.{in-turn-at}
+use Rattle.filters.proofs.Stretches.{serves-as, in-turn-at}
 use Rattle.filters.proofs.fill_rows.Statement.{statement}
 use Rattle.filters.proofs.fill_rows.Tie as tie
 
@@ -63,7 +63,7 @@ add-fill-row c = omega (arith, room (in1 (c .before)))
 fill-row-requires : tie.Need-fill-row-requires Inv-loop μ-loop
 unfolding rowBefore rowAfter
 fill-row-requires c κs = let b = c .before in let i = in1 (b .before) in let l = i .before in let s = l .before in
-    (s .pre .0, rw (b .before .before .least .ensures, b .least2 .ensures) (s .pre .1 .serves (l .loop .k) (omega (arith, i .loop-test))), s .pre .2, l .loop .inv .1 .long ∙ s .pre .3)
+    (s .pre .0, serves-as (b .before .before .least .ensures) (b .least2 .ensures) (s .pre .1 .serves (l .loop .k) (omega (arith, i .loop-test))), s .pre .2, l .loop .inv .1 .long ∙ s .pre .3)
 
 add-k : tie.Need-add-k Inv-loop μ-loop
 add-k c = let i = in1 (c .before .before .before .before) in omega (arith, room i, i .loop-test, i .before .before .pre .1 .rows)

@@ -1,6 +1,7 @@
 -- `pass_b::first_seasonal` meets its contract: SI1 replaced, then its seasonal.
 -- Assumes nothing.
 use native.Mathlib.Omega.{arith}
+use lib.ListN.{length}
 use Rattle.refusals.specs.Limits.{monthsOfYear}
 use Rattle.replacing.specs.Replaced.{replacedBy}
 use Rattle.steps.specs.ByMonth.{Stands}
@@ -14,7 +15,7 @@ use Rattle.pass_b.proofs.first_seasonal.Tie as tie
 
 -- a has SI1 replaced, at its own months
 stands : (q : tie.After-replaced-si1) → let s = q .before .before .before .before .before .before .before in
-    Stands 6 (s .args .x .now) (replacedBy monthsOfYear (weightsB4 (s .args .start) (s .args .x .now)) (SI1 (choicesB4 (s .args .start) (s .args .x .now)) (s .args .x .now))) (q .replaced-si1 .last .1 .1 .0)
+    Stands 6 (length (s .args .x .now)) (replacedBy monthsOfYear (weightsB4 (s .args .start) (s .args .x .now)) (SI1 (choicesB4 (s .args .start) (s .args .x .now)) (s .args .x .now))) (q .replaced-si1 .last .1 .1 .0)
 stands q = let s = q .before .before .before .before .before .before .before .pre in replaced1-stands (s .0) (q .replaced-si1 .ensures) (s .1 .a-long)
 
 replaced-si1-requires : tie.Need-replaced-si1-requires

@@ -41,7 +41,7 @@ module _ (f : tie.After-first-si) where
   lent : {A : Type 0} (l : List A) → length l ≡ n → length (take (n - 6 - 6) (drop 6 l)) ≡ n - 12
   lent l e = part-long 6 (n - 6) l order (omega (arith, e)) ∙ omega arith
 
-  stands : Stands 6 x (SI1 plainMonthly x) (f .first-si .last .1 .1 .0)
+  stands : Stands 6 (length x) (SI1 plainMonthly x) (f .first-si .last .1 .1 .0)
   stands = si1-stands (s .pre .0) (f .first-si .ensures .1) (s .pre .1 .b-long)
 
   is-si1 : take (n - 6 - 6) (drop 6 (f .first-si .last .1 .1 .0)) ≡ SI1 plainMonthly x
