@@ -32,8 +32,8 @@ unfoldable pub exactByRow : Table → ℕ → ℕ → ℕ → List ℤ → ℕ �
 exactByRow F L b a x t = pos (L / denominator F (rowFor F b a)) *ℤ weightedSum F b a x t
 
 -- METHOD 2.1 and 2.3: of values that stand at the months from `first` to below `past` and nowhere else, how many precede month t and how many follow
--- it, one step apart, as far as a row can take them. Each place of a run of six values, which 72 months give, has three on one side; SI1 has runs of five at least, whose places have
--- two on one side, enough for 3×3; Henderson's 23 terms ask for 22 months: no place is short on both sides
+-- it, one step apart, as far as a row can take them. Each place of a run of six values, which 72 months give, has three on one side; SI1 has runs of
+-- five at least, whose places have two on one side, enough for 3×3; Henderson's 23 terms ask for 22 months: no place is short on both sides
 unfoldable pub earlier : Table → ℕ → ℕ → ℕ
 earlier F first t = min ((t - first) / F .step) (F .side)
 

@@ -187,8 +187,9 @@ fn fill_months(
     }
 }
 
-// METHOD 2.3: the month-run step. At each month t from `first` to below `past` out gets the rounded sum of the values of t's run within these
-// months, every twelfth from t, read where they stand in x, by the row for so many before and after. Nothing else is written.
+// METHOD 2.3: the month-run step. At each month t from `first` to below `past` out gets the weighted mean, rounded once, of the value at t and those
+// whole years before and after it within these months, at most `side` on each side, read where they stand in x, by the row for so many before and
+// after. Nothing else is written.
 fn month_runs(
     side: usize,
     over: usize,

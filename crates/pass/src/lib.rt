@@ -17,7 +17,7 @@ ghost use Rattle.steps.specs.Places.{inner, atMonth, nearestMonth, widened};
 ghost use Rattle.pass.specs.Contracts.{PassSeries, Work, along, LessAlong, Copies, Levels, withoutLevelAt, withoutLevel, OfSI1, OfSI2, Adjustable, PassDone};
 use rows::Terms;
 
-// r at month t less the level at month i.
+// r at month t less m at month i.
 fn less_at(r: &[i64], m: &[i64], t: usize, i: usize) -> i64
     requires { ⌜ (t < length (now r)) × (i < length (now m)) × ((now r ‼ t) within largest) × ((now m ‼ i) within largest) ⌝ }
     ensures { λ z. ⌜ z ≡ (now (r .entry) ‼ t) -ℤ (now (m .entry) ‼ i) ⌝ }
@@ -25,7 +25,7 @@ fn less_at(r: &[i64], m: &[i64], t: usize, i: usize) -> i64
     r[t] - m[i]
 }
 
-// r less its levels, at the months from lo to below hi: the level at month i for the first, and for each further one that `step` months on.
+// r less m, at the months from lo to below hi: m at month i for the first, and `step` months on for each further one.
 fn less_from(r: &[i64], m: &[i64], i: usize, step: usize, lo: usize, hi: usize, out: &mut [i64])
     requires { ⌜ LessAlong i step lo hi (now r) (now m) × (length (now out) ≡ length (now r)) ⌝ }
     ensures { λ _. ⌜ Filled (pos 0) (λ t. (now (r .entry) ‼ t) -ℤ (now (m .entry) ‼ along i step lo t)) lo hi
