@@ -10,7 +10,7 @@ use Rattle.series.proofs.Lengths.{length-minus, length-pick}
 use Rattle.filters.proofs.Lengths.{length-filter}
 use Rattle.replacing.proofs.ReplacedLaws.{length-replaced-by}
 use Rattle.steps.specs.Choices.{Replacing, none, byWeights, replaced, Choices}
-use Rattle.steps.specs.Steps.{T1, SI1, R1, M1, innerS1, S1, A1, T2, SI2, R2, M2, S2}
+use Rattle.steps.specs.Steps.{T1, SI1, R1, M1, innerS1, S1, A1, T2, SI2, R2, S2}
 use Rattle.steps.specs.Places.{inner, widened}
 
 pub length-inner : (h : ℕ) (x : List ℤ) → length (inner h x) ≡ length x - 2 * h
@@ -47,7 +47,7 @@ module _ (c : Choices) (x : List ℤ) where
 
   pub length-si2 : length (SI2 c x) ≡ length x
   unfolding SI2
-  length-si2 = length-minus x (T2 c x)
+  length-si2 = length-minus x _
 
   pub length-replaced2 : length (replaced (c .halfYear) (c .replacing2) (SI2 c x)) ≡ length x
   length-replaced2 = length-replaced (c .halfYear) (c .replacing2) (SI2 c x) ∙ length-si2
@@ -58,4 +58,4 @@ module _ (c : Choices) (x : List ℤ) where
 
   pub length-s2 : length (S2 c x) ≡ length x
   unfolding S2
-  length-s2 = length-minus (R2 c x) (M2 c x) ∙ length-r2
+  length-s2 = length-minus (R2 c x) _ ∙ length-r2
