@@ -22,20 +22,6 @@ static const struct vepsjalm_slices slices = {
     .scratch = scratch, .scratch_length = VEPSJALM_SCRATCH_FOR(MONTHS),
 };
 
-/* Writes the first bytes of `out` to a new file, and removes it again if that fails; returns 0, or the exit status. */
-static int store(const char *name, size_t size)
-{
-    FILE *stream = fopen(name, "wbx"); /* x, of C11: fails where there is such a file */
-    if (stream == NULL)
-        return failed(name);
-    int status = fwrite(out, 1, size, stream) == size ? 0 : failed(name);
-    if (fclose(stream) != 0 && status == 0)
-        status = failed(name);
-    if (status != 0)
-        remove(name);
-    return status;
-}
-
 int main(int arguments, char **words)
 {
     if (arguments != 3) {
@@ -52,5 +38,5 @@ int main(int arguments, char **words)
         number = vepsjalm_decompose_into(figures, n, start, &slices, &place);
     if (number == VEPSJALM_SUCCESS)
         number = vepsjalm_write(figures, n, start, c17, n, out, sizeof out, &size, &place);
-    return number == VEPSJALM_SUCCESS ? store(words[2], size) : refused(number, place);
+    return number == VEPSJALM_SUCCESS ? store(words[2], out, size) : refused(number, place);
 }

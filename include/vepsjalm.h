@@ -1,16 +1,18 @@
-/* Vepsjalm: seasonal adjustment of a monthly series by the additive X-11 method, and its desk file. For C99 or later, and for C++.
-   `rt staticlib vepsjalm` in the repository's folder writes the library, target/staticlib/libvepsjalm.a, for x86-64 Linux; beside it only the
-   C library is needed. examples/decompose.c is a whole caller of reading and decomposing, examples/final-weights.c of writing too.
+/* Vepsjalm: seasonal adjustment of a monthly series by the additive X-11 method, and its desk file, in two forms. For C99 or later, and for
+   C++. `rt staticlib vepsjalm` in the repository's folder writes the library, target/staticlib/libvepsjalm.a, for x86-64 Linux; beside it only
+   the C library is needed. examples/decompose.c is a whole caller of reading and decomposing, examples/final-weights.c of writing too,
+   examples/columns.c of moving a file from one form to the other.
 
    The filters are 2x12, 3x3, 3x5 and Henderson's with Musgrave's ends: 13 terms in a pass, and 9, 13 or 23 for the final trend, chosen by how
    noisy the series is (docs/METHOD.md, 4.5) and not told. Extreme months are found by the library itself; in its first pass their values are
    replaced by means of their neighbours (3.8). What is filtered or corrected is rounded to the nearest thousandth, a half to the even one
    (1.3). No multiplicative working, calendar effects, forecasts or choice of seasonal filter.
 
-   For all three functions:
+   For all seven functions:
 
    - They return 0 for success, else a refusal's number, for any lengths and any values. Either way they set what the last pointers
-     point to: the place, and before it in reading the count and start month, in writing the size.
+     point to: the place, and before it in reading the count, the start month and by calendar month the first year, in writing and moving the
+     size, and in moving back the first year too.
    - A slice is a pointer and, straight after it, its length, counted in entries and not in bytes.
    - All memory is the caller's. Nothing is allocated and there is no global state: many threads may call side by side, each on
      memory of its own. Figures, weights and files that are only read may be shared. What a slice that is filled, or the scratch, holds
@@ -18,7 +20,8 @@
    - The caller owes pointers that are aligned for their type, valid for their length (a single one for one entry), and never null, not
      even for length 0; that nothing a call writes to overlaps anything else that is lent to that call; and that nobody else changes lent
      memory until the call returns.
-   - An int that is passed as start month is cut to 8 bits by C before the call sees it: look at wider values yourself. */
+   - An int that is passed as start month is cut to 8 bits by C before the call sees it, and one that is passed as first year to 16: look at
+     wider values yourself. */
 #ifndef VEPSJALM_H
 #define VEPSJALM_H
 
@@ -28,10 +31,10 @@
 /* The version of this header and of the library that goes with it (the library does not tell its own), major.minor.patch. The minor number
    goes up with every landing that changes what callers see, the patch number with every other; the major number is 0 while functions and
    constants may still change. */
-#define VEPSJALM_VERSION "0.13.1"
+#define VEPSJALM_VERSION "0.14.0"
 #define VEPSJALM_VERSION_MAJOR 0
-#define VEPSJALM_VERSION_MINOR 13
-#define VEPSJALM_VERSION_PATCH 1
+#define VEPSJALM_VERSION_MINOR 14
+#define VEPSJALM_VERSION_PATCH 0
 
 /* The limits. */
 #define VEPSJALM_LEAST_MONTHS 72       /* months of a series, n */
@@ -40,18 +43,30 @@
 #define VEPSJALM_LARGEST_FIGURE 200000 /* a figure's size, in units: -200,000 to 200,000 */
 #define VEPSJALM_UNIT 1000             /* thousandths (grains) in a unit; the tables are in thousandths */
 #define VEPSJALM_FULL_WEIGHT 1000      /* the weight of a month that counts in full; weights are 0 to 1,000 */
+#define VEPSJALM_EARLIEST_YEAR 1       /* the year of a series' first month and that of its last, by calendar month */
+#define VEPSJALM_LATEST_YEAR 9999
 
-/* Entries of scratch and bytes of a desk file for n months; bytes of the longest desk file, 3,604. */
+/* Entries of scratch for n months; bytes of a desk file for n months and of the longest, 3,604; the same by calendar month, 3,606. */
 #define VEPSJALM_SCRATCH_FOR(n) (8 * (n))
 #define VEPSJALM_FILE_LENGTH(n) (4 + 6 * (n))
 #define VEPSJALM_LONGEST_FILE VEPSJALM_FILE_LENGTH(VEPSJALM_MOST_MONTHS)
+#define VEPSJALM_COLUMNS_LENGTH(n) (6 + 6 * (n))
+#define VEPSJALM_LONGEST_COLUMNS VEPSJALM_COLUMNS_LENGTH(VEPSJALM_MOST_MONTHS)
 
 /* The refusal sheet. The words of vepsjalm_refusal_text say when each number is the answer; n is the number of figures in decomposing and
-   writing, the file's count in reading. The place is t of the first such figure or weight for VEPSJALM_FIGURE_OUTSIDE and
-   VEPSJALM_WEIGHT_ABOVE, where t is a month's place in the series, counted from 0; it is 0 for all others.
+   writing, the file's count in reading and moving. A file's header has 4 bytes, by calendar month 6, and 6 bytes for each month follow. The
+   place is t of the first such figure or weight for VEPSJALM_FIGURE_OUTSIDE and VEPSJALM_WEIGHT_ABOVE, where t is a month's place in the
+   series, counted from 0; by calendar month too, wherever in the file it stands. It is 0 for all others.
 
-   Decomposing checks 1, 2, 3, 4, 5, 6; reading 7, 1, 2, 3, 8, 9, 4, 5, 10; writing 1, 2, 3, 4, 5, 10. The first that applies is the
-   answer, so that all figures are looked at before any weight. A refusal changes no slice; only 6, which is proved never to happen,
+   The checks, of which the first that applies is the answer, so that all figures are looked at before any weight:
+
+       decomposing                                    1, 2, 3, 4, 5, 6
+       reading                                        7, 1, 2, 3, 8, 9, 4, 5, 10
+       writing                                        1, 2, 3, 4, 5, 10
+       reading by calendar month, moving either way   7, 1, 2, 3, 8, 11, 9, 4, 5, 10
+       writing by calendar month                      1, 2, 3, 11, 4, 5, 10
+
+   In moving, 7 and 9 are of the file that is moved, 4 of the output. A refusal changes no slice; only 6, which is proved never to happen,
    would leave the scratch as success does. */
 #define VEPSJALM_SUCCESS 0
 #define VEPSJALM_TOO_SHORT 1
@@ -64,6 +79,7 @@
 #define VEPSJALM_BAD_PERIOD 8
 #define VEPSJALM_BAD_FILE_LENGTH 9
 #define VEPSJALM_WEIGHT_ABOVE 10
+#define VEPSJALM_BAD_YEARS 11
 
 /* A constant text for any number. */
 static inline const char *vepsjalm_refusal_text(uint8_t number)
@@ -76,10 +92,11 @@ static inline const char *vepsjalm_refusal_text(uint8_t number)
     case VEPSJALM_WRONG_LENGTH:    return "a lent slice has the wrong length";
     case VEPSJALM_FIGURE_OUTSIDE:  return "a figure outside -200,000 to 200,000";
     case VEPSJALM_EMPTY_GROUP:     return "dropping leaves a group empty";
-    case VEPSJALM_NO_HEADER:       return "a file of fewer than 4 bytes";
+    case VEPSJALM_NO_HEADER:       return "a file of fewer bytes than its header";
     case VEPSJALM_BAD_PERIOD:      return "the file's period is not 12";
-    case VEPSJALM_BAD_FILE_LENGTH: return "the file's length is not 4+6n bytes";
+    case VEPSJALM_BAD_FILE_LENGTH: return "the file's length is not that of n months";
     case VEPSJALM_WEIGHT_ABOVE:    return "a weight above 1,000";
+    case VEPSJALM_BAD_YEARS:       return "first year or year of the last month outside 1 to 9999";
     default:                       return "no number of the refusal sheet";
     }
 }
@@ -127,8 +144,8 @@ static inline uint8_t vepsjalm_decompose_into(
         slices->scratch, slices->scratch_length, place);
 }
 
-/* Reading a desk file. It has the count n in 2 bytes, the start month in 1 and the period 12 in 1, then n figures of 4 bytes, signed, then
-   n final weights of 2 bytes, all low byte first: 4+6n bytes.
+/* Reading a desk file, the plain form. It has the count n in 2 bytes, the start month in 1 and the period 12 in 1, then n figures of 4 bytes,
+   signed, then n final weights of 2 bytes, all low byte first: 4+6n bytes.
 
    file        the bytes
    figures     at least n entries; success fills the first n, in units, and leaves the rest
@@ -142,7 +159,8 @@ uint8_t vepsjalm_read(
     const uint8_t *file, size_t file_length, int32_t *figures, size_t figures_length, uint16_t *weights, size_t weights_length,
     size_t *count, uint8_t *start, size_t *place);
 
-/* Writing a desk file. After success the first *size bytes of out, read again with that length, give the same series and weights.
+/* Writing a desk file, the plain form. After success the first *size bytes of out, read again with that length, give the same series and
+   weights.
 
    figures     n of them, in units
    start       calendar month of the first figure, 1 to 12
@@ -153,6 +171,57 @@ uint8_t vepsjalm_read(
 uint8_t vepsjalm_write(
     const int32_t *figures, size_t figures_length, uint8_t start, const uint16_t *weights, size_t weights_length,
     uint8_t *out, size_t out_length, size_t *size, size_t *place);
+
+/* Reading a desk file by calendar month. It has 2 bytes more, after the period: the first year, that of the first figure, low byte first; and
+   figures and weights each stand by month, all Januaries, oldest first, then all Februaries, up to the Decembers: 6+6n bytes.
+
+   file        the bytes
+   figures     at least n entries; success fills the first n, in units, oldest first as for decomposing, and leaves the rest
+   weights     at least n entries; success fills the first n, 0 to 1,000, oldest first, and leaves the rest
+   count       set to n; 0 after a refusal
+   start       set to the start month, 1 to 12; 0 after a refusal
+   first_year  set to the first year, 1 to 9999; 0 after a refusal
+   place       set to the refusal's place; 0 after success
+
+   The year of the last month is first_year and as many more as 12 goes whole into start + n - 2; it too is 1 to 9999. */
+uint8_t vepsjalm_read_columns(
+    const uint8_t *file, size_t file_length, int32_t *figures, size_t figures_length, uint16_t *weights, size_t weights_length,
+    size_t *count, uint8_t *start, uint16_t *first_year, size_t *place);
+
+/* Writing a desk file by calendar month. After success the first *size bytes of out, read again with that length, give the same series,
+   first year and weights.
+
+   figures     n of them, in units, oldest first
+   start       calendar month of the first figure, 1 to 12
+   first_year  its year; this and the year of the last figure are 1 to 9999
+   weights     exactly n entries, 0 to 1,000, oldest first: the final weights, c17 where they come from decomposing
+   out         at least 6+6n bytes; success fills the first 6+6n and leaves the rest
+   size        set to 6+6n; 0 after a refusal
+   place       set to the refusal's place; 0 after success */
+uint8_t vepsjalm_write_columns(
+    const int32_t *figures, size_t figures_length, uint8_t start, uint16_t first_year, const uint16_t *weights, size_t weights_length,
+    uint8_t *out, size_t out_length, size_t *size, size_t *place);
+
+/* Moving forward: a plain desk file to the one by calendar month of the same series and weights. Moved back, it is the same file again.
+
+   file        the bytes of the plain file
+   first_year  the year of its first figure; this and the year of the last figure are 1 to 9999
+   out         at least 6+6n bytes; success fills the first 6+6n and leaves the rest
+   size        set to 6+6n; 0 after a refusal
+   place       set to the refusal's place; 0 after success */
+uint8_t vepsjalm_to_columns(
+    const uint8_t *file, size_t file_length, uint16_t first_year, uint8_t *out, size_t out_length, size_t *size, size_t *place);
+
+/* Moving back: a desk file by calendar month to the plain one of the same series and weights, and the first year beside it. Moved forward with
+   that year, it is the same file again.
+
+   file        the bytes of the file by calendar month
+   out         at least 4+6n bytes; success fills the first 4+6n and leaves the rest
+   size        set to 4+6n; 0 after a refusal
+   first_year  set to the first year, 1 to 9999; 0 after a refusal
+   place       set to the refusal's place; 0 after success */
+uint8_t vepsjalm_from_columns(
+    const uint8_t *file, size_t file_length, uint8_t *out, size_t out_length, size_t *size, uint16_t *first_year, size_t *place);
 
 #ifdef __cplusplus
 }

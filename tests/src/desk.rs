@@ -16,9 +16,13 @@ impl DeskSeries {
     }
 }
 
-/// Reads a desk file into lent slices with room for so many figures and so
-/// many weights.  Checks 7, 1, 2, 3, 8, 9, 4, 5, 10.
-pub fn read(bytes: &[u8], room_for_figures: usize, room_for_weights: usize) -> Result<DeskSeries, Refusal> {
+/// How long the file of n months is.
+pub fn length_of(n: usize) -> usize {
+    4 + 6 * n
+}
+
+/// Count and start month of a file.  Checks 7, 1, 2, 3, 8.
+pub fn header(bytes: &[u8]) -> Result<(usize, u8), Refusal> {
     let (Some(&low), Some(&high), Some(&start), Some(&period)) =
         (bytes.first(), bytes.get(1), bytes.get(2), bytes.get(3))
     else {
@@ -29,13 +33,33 @@ pub fn read(bytes: &[u8], room_for_figures: usize, room_for_weights: usize) -> R
     if period != 12 {
         return refuse(8, 0);
     }
-    if bytes.len() != 4 + 6 * n {
+    Ok((n, start))
+}
+
+/// A file whose slices are long enough for so many months, or not.  Checks
+/// as `header` does, then 9, 4, 5, 10.
+pub fn series_in(bytes: &[u8], has_room: impl Fn(usize) -> bool) -> Result<DeskSeries, Refusal> {
+    let (n, start) = header(bytes)?;
+    if bytes.len() != length_of(n) {
         return refuse(9, 0);
     }
-    if room_for_figures < n || room_for_weights < n {
+    if !has_room(n) {
         return refuse(4, 0);
     }
-    let body = &bytes[4..];
+    let (figures, weights) = two_arrays(&bytes[4..], n);
+    check_figures(&figures)?;
+    check_weights(&weights)?;
+    Ok(DeskSeries { start, figures, weights })
+}
+
+/// Reads a desk file into lent slices with room for so many figures and so
+/// many weights.  Checks 7, 1, 2, 3, 8, 9, 4, 5, 10.
+pub fn read(bytes: &[u8], room_for_figures: usize, room_for_weights: usize) -> Result<DeskSeries, Refusal> {
+    series_in(bytes, |n| room_for_figures >= n && room_for_weights >= n)
+}
+
+/// The n figures and the n weights of the bytes after a header, as they stand.
+pub fn two_arrays(body: &[u8], n: usize) -> (Vec<i32>, Vec<u16>) {
     let mut figures = Vec::new();
     for piece in body[..4 * n].chunks(4) {
         figures.push(figure_from(piece));
@@ -44,9 +68,7 @@ pub fn read(bytes: &[u8], room_for_figures: usize, room_for_weights: usize) -> R
     for piece in body[4 * n..].chunks(2) {
         weights.push(u16::from(piece[0]) + 256 * u16::from(piece[1]));
     }
-    check_figures(&figures)?;
-    check_weights(&weights)?;
-    Ok(DeskSeries { start, figures, weights })
+    (figures, weights)
 }
 
 /// Four bytes, low byte first, as a signed number: the count up to 2^32,
@@ -85,7 +107,7 @@ pub fn bytes_of(figures: &[i32], start: u8, period: u8, weights: &[u16]) -> Vec<
 pub fn write(figures: &[i32], start: u8, weights: &[u16], room: usize) -> Result<Vec<u8>, Refusal> {
     let n = figures.len();
     check_size_and_start(n, start)?;
-    if weights.len() != n || room < 4 + 6 * n {
+    if weights.len() != n || room < length_of(n) {
         return refuse(4, 0);
     }
     check_figures(figures)?;

@@ -1,8 +1,8 @@
 //! Additive X-11 seasonal adjustment of one monthly series, and the desk
 //! file, worked from document 01 ("Exact scope and rules for the additive
-//! X-11 desk") and requests 1/12 to 3/12 of document 02 alone.  It is meant
-//! to stand beside another program: the two are given the same series and
-//! their tables are compared.
+//! X-11 desk") and requests 1/12 to 3/12 and 5/12 of document 02 alone.  It
+//! is meant to stand beside another program: the two are given the same
+//! series and files, and their tables and bytes are compared.
 //!
 //! Plainness comes before speed.  Every filter first gives exact fractions;
 //! a table of fractions is then rounded once.  Months are found by their
@@ -11,6 +11,7 @@
 #![forbid(unsafe_code)]
 
 pub mod calendar;
+pub mod columns;
 pub mod decompose;
 pub mod desk;
 pub mod exact;

@@ -6,6 +6,7 @@
 use std::io::{self, Read, Write};
 use std::process::ExitCode;
 use separate::calendar::labels;
+use separate::columns::{from_columns, length_of, to_columns, write_columns};
 use separate::decompose::{check_size_and_start, decompose_fitting, Refusal, Tables};
 use separate::desk::{bytes_of, write};
 use separate::exact::{distance, exact_pass, exact_working, FourDistances};
@@ -34,6 +35,10 @@ separate passbdistances START
 separate print             a desk file: what the printing program writes
 separate mkdesk START      figures: a desk file with all weights 1000
 separate mkraw START PER   the same without any check, with a period byte of one's own
+separate mkcolumns START YEAR
+                           figures: a desk file by calendar month with all weights 1000
+separate tocolumns YEAR    a desk file, YEAR being that of its first month: the same by calendar month
+separate fromcolumns       a desk file by calendar month: the same in the order of t; `year Y` on standard error
 separate rows              the filter rows
 separate cases             all made-up series, one a line: name start figures
 separate case NAME         one of them, figures only
@@ -61,6 +66,21 @@ fn main() -> ExitCode {
 }
 
 fn run(words: &[&str]) -> Result<Vec<u8>, String> {
+    match words {
+        ["mkdesk", start] => make_desk(&figures()?, month(start)?),
+        ["mkraw", start, period] => {
+            let figures = figures()?;
+            Ok(bytes_of(&figures, month(start)?, month(period)?, &vec![1000; figures.len()]))
+        }
+        ["mkcolumns", start, year] => make_columns(&figures()?, month(start)?, first_year(year)?),
+        ["tocolumns", year] => move_forward(&standard_input()?, first_year(year)?),
+        ["fromcolumns"] => move_back(&standard_input()?),
+        _ => Ok(text(words)?.into_bytes()),
+    }
+}
+
+/// What the subcommands print that make no file.
+fn text(words: &[&str]) -> Result<String, String> {
     let text = match words {
         ["tables", start] => answered(tables(&figures()?, month(start)?)),
         ["steps", start] => answered(all_steps(&figures()?, month(start)?)),
@@ -72,11 +92,6 @@ fn run(words: &[&str]) -> Result<Vec<u8>, String> {
         ["passdistances"] => answered(print_pass_distances(&numbers()?)),
         ["passbdistances", start] => answered(print_pass_b_distances(&figures()?, month(start)?)),
         ["print"] => printed(&standard_input()?),
-        ["mkdesk", start] => return make_desk(&figures()?, month(start)?),
-        ["mkraw", start, period] => {
-            let figures = figures()?;
-            return Ok(bytes_of(&figures, month(start)?, month(period)?, &vec![1000; figures.len()]));
-        }
         ["rows"] => print_rows(),
         ["cases"] => {
             let mut text = String::new();
@@ -100,7 +115,7 @@ fn run(words: &[&str]) -> Result<Vec<u8>, String> {
         ["bounds", from, to] => bounds(seed(from)?, seed(to)?),
         _ => return Err(USAGE.to_string()),
     };
-    Ok(text.into_bytes())
+    Ok(text)
 }
 
 fn joined<T: ToString>(list: &[T]) -> String {
@@ -131,6 +146,10 @@ fn figures() -> Result<Vec<i32>, String> {
 
 fn month(word: &str) -> Result<u8, String> {
     word.parse().map_err(|_| format!("no number from 0 to 255: {word}"))
+}
+
+fn first_year(word: &str) -> Result<u16, String> {
+    word.parse().map_err(|_| format!("no number from 0 to 65535: {word}"))
 }
 
 fn seed(word: &str) -> Result<u64, String> {
@@ -283,6 +302,21 @@ fn print_pass_b_distances(figures: &[i32], start: u8) -> Result<String, Refusal>
 fn make_desk(figures: &[i32], start: u8) -> Result<Vec<u8>, String> {
     let n = figures.len();
     write(figures, start, &vec![1000; n], 4 + 6 * n).map_err(|refusal| refusal.to_string())
+}
+
+fn make_columns(figures: &[i32], start: u8, first_year: u16) -> Result<Vec<u8>, String> {
+    let n = figures.len();
+    write_columns(figures, start, first_year, &vec![1000; n], length_of(n)).map_err(|refusal| refusal.to_string())
+}
+
+fn move_forward(old: &[u8], first_year: u16) -> Result<Vec<u8>, String> {
+    to_columns(old, first_year, usize::MAX).map_err(|refusal| refusal.to_string())
+}
+
+fn move_back(new: &[u8]) -> Result<Vec<u8>, String> {
+    let (old, first_year) = from_columns(new, usize::MAX).map_err(|refusal| refusal.to_string())?;
+    eprintln!("year {first_year}");
+    Ok(old)
 }
 
 fn print_rows() -> String {

@@ -1,6 +1,8 @@
 //! The examples in C and Rust, built and run by the commands of their headings, beside the separately written program; and the C header: its
-//! constants beside the limits and refusals, its texts, and the call with a struct beside the plain one.
+//! constants beside the limits and refusals, its texts, its functions for both forms of the desk file, and the call with a struct beside the
+//! plain one.
 
+use separate::columns::{self, from_columns, read_columns, to_columns, write_columns, EARLIEST_YEAR, LATEST_YEAR};
 use separate::decompose::{decompose, decompose_fitting, Lent, Refusal, Tables, FEWEST_MONTHS, FIGURE_LIMIT, MOST_MONTHS};
 use separate::desk::{bytes_of, read, write, DeskSeries};
 use separate::generators::book_series;
@@ -11,10 +13,10 @@ use std::path::{Path, PathBuf};
 use std::process::{Command, Output, Stdio};
 use std::sync::LazyLock;
 
-const VERSION: [usize; 3] = [0, 13, 1];
+const VERSION: [usize; 3] = [0, 14, 0];
 
 /// The words of the refusal sheet by number, and those for every other number.
-const TEXTS: [&str; 11] = [
+const TEXTS: [&str; 12] = [
     "no refusal",
     "n below 72",
     "n above 600",
@@ -22,10 +24,11 @@ const TEXTS: [&str; 11] = [
     "a lent slice has the wrong length",
     "a figure outside -200,000 to 200,000",
     "dropping leaves a group empty",
-    "a file of fewer than 4 bytes",
+    "a file of fewer bytes than its header",
     "the file's period is not 12",
-    "the file's length is not 4+6n bytes",
+    "the file's length is not that of n months",
     "a weight above 1,000",
+    "first year or year of the last month outside 1 to 9999",
 ];
 const NO_TEXT: &str = "no number of the refusal sheet";
 
@@ -63,12 +66,17 @@ fn build(command: &str, program: &Path) {
     assert!(built.status.success() && program.exists(), "{command}\n{}", text(&built.stderr));
 }
 
-/// The one line of an example's heading that starts so.
-fn heading_line(source: &str, start: &str) -> String {
+/// The lines of an example's heading that start so.
+fn heading_lines(source: &str, start: &str) -> Vec<String> {
     let text = fs::read_to_string(root().join(source)).expect("an example");
-    let lines: Vec<&str> = text.lines().map(|line| line.trim_start_matches("//!").trim()).filter(|l| l.starts_with(start)).collect();
+    text.lines().map(|line| line.trim_start_matches("//!").trim().to_string()).filter(|line| line.starts_with(start)).collect()
+}
+
+/// The one line that starts so.
+fn heading_line(source: &str, start: &str) -> String {
+    let lines = heading_lines(source, start);
     assert_eq!(lines.len(), 1, "{source}: {start}");
-    lines[0].to_string()
+    lines[0].clone()
 }
 
 struct Example {
@@ -79,10 +87,12 @@ struct Example {
 impl Example {
     /// Built by the command of its heading that starts so.
     fn built(source: &'static str, compiler: &str) -> Example {
-        let run = heading_line(source, "target/");
-        let (name, _) = run.split_once(' ').expect("a program and a file");
+        let command = heading_line(source, compiler);
+        let (_, after) = command.split_once("-o ").expect("the program's name");
+        let (name, _) = after.split_once(' ').expect("a program and its sources");
         let program = root().join(name);
-        build(&heading_line(source, compiler), &program);
+        assert!(heading_lines(source, "target/").iter().all(|run| run.starts_with(&format!("{name} "))), "{source}");
+        build(&command, &program);
         Example { source, program }
     }
 
@@ -116,6 +126,7 @@ impl Example {
 static IN_C: LazyLock<Example> = LazyLock::new(|| Example::built("examples/decompose.c", "cc "));
 static IN_RUST: LazyLock<Example> = LazyLock::new(|| Example::built("examples/decompose.rs", "rustc "));
 static FINAL_WEIGHTS: LazyLock<Example> = LazyLock::new(|| Example::built("examples/final-weights.c", "cc "));
+static COLUMNS: LazyLock<Example> = LazyLock::new(|| Example::built("examples/columns.c", "cc "));
 
 fn given(output: &Output) -> (i32, String, String) {
     (output.status.code().expect("an exit status"), text(&output.stdout), text(&output.stderr))
@@ -333,46 +344,212 @@ fn final_weights_without_input() {
     assert!(!to.exists());
 }
 
-#[test]
-fn final_weights_without_output() {
-    let [_, longest] = accepted();
-    let from = stored("longest.desk", &longest);
-    let (there, full) = (stored("there.desk", b"what was there"), free("full.desk"));
+/// The words of a run that makes a file of another: both names, and what follows them.
+fn names<'a>(from: &'a Path, to: &'a Path, after: &[&'a Path]) -> Vec<&'a Path> {
+    [&[from, to], after].concat()
+}
+
+/// Outputs that cannot be made; those that are there stay as they are.
+fn try_without_output(example: &Example, name: &str, file: &[u8], after: &[&Path]) {
+    let from = stored(&format!("{name}-from"), file);
+    let (there, full) = (stored(&format!("{name}-there"), b"what was there"), free(&format!("{name}-full")));
     symlink("/dev/full", &full).expect("a name for the full device");
     for (to, why) in [
         (there.clone(), "File exists"),
         (from.clone(), "File exists"),
         (full.clone(), "File exists"),
         (root().join("examples"), "File exists"),
-        (own("no-folder/out.desk"), "No such file or directory"),
+        (own("no-folder/out"), "No such file or directory"),
     ] {
         let named = format!("{}: {why}", to.display());
-        assert_failed(FINAL_WEIGHTS.on(&[&from, &to], ""), &named, &named);
+        let words = names(&from, &to, after);
+        assert_failed(example.on(&words, ""), &named, &named);
         for redirection in ["2>/dev/full", "2>&-"] {
-            assert_eq!(FINAL_WEIGHTS.on(&[&from, &to], redirection), (FAILED, String::new(), String::new()), "{named}, {redirection}");
+            assert_eq!(example.on(&words, redirection), (FAILED, String::new(), String::new()), "{named}, {redirection}");
         }
     }
     assert_eq!(fs::read(&there).expect("a file"), b"what was there");
-    assert_eq!(fs::read(&from).expect("a file"), longest);
+    assert_eq!(fs::read(&from).expect("a file"), file);
     assert!(full.is_symlink());
 }
 
 /// The shell lets a file have 512 bytes: writing the longest fails half-way.
 const HALF: &str = "trap '' XFSZ; ulimit -f 1;";
 
-#[test]
-fn final_weights_removes_what_is_half_written() {
-    let [_, longest] = accepted();
-    let from = stored("whole.desk", &longest);
-    let cut = own("half.desk");
+/// What is half-written is removed.
+fn try_half_written(example: &Example, name: &str, file: &[u8], after: &[&Path]) {
+    let from = stored(&format!("{name}-whole"), file);
+    let cut = own(&format!("{name}-half"));
     let half = shell(&format!("{HALF} cat '{}' > '{}'", from.display(), cut.display()));
     assert!(!half.status.success() && fs::metadata(&cut).expect("half a file").len() == 512);
     for (redirection, line) in [("", "File too large\n"), ("2>&-", "")] {
-        let to = free("half-written.desk");
-        let (status, output, error) = given(&FINAL_WEIGHTS.output(HALF, &[&from, &to], redirection));
+        let to = free(&format!("{name}-half-written"));
+        let words = names(&from, &to, after);
+        let (status, output, error) = given(&example.output(HALF, &words, redirection));
         let line = if line.is_empty() { String::new() } else { format!("{}: {line}", to.display()) };
         assert_eq!((status, output.as_str(), error), (FAILED, "", line), "{redirection}");
         assert!(!to.exists(), "{redirection}");
+    }
+}
+
+#[test]
+fn final_weights_without_output() {
+    let [_, longest] = accepted();
+    try_without_output(&FINAL_WEIGHTS, "weights", &longest, &[]);
+    try_half_written(&FINAL_WEIGHTS, "weights", &longest, &[]);
+}
+
+/// The word for a first year.
+fn word(year: &str) -> &Path {
+    Path::new(year)
+}
+
+/// What moving back puts on standard output.
+fn year_line(year: u16) -> String {
+    format!("first year {year}\n")
+}
+
+#[test]
+fn columns_by_the_heading() {
+    let runs = heading_lines(COLUMNS.source, "target/");
+    let [made, made_again] = ["target/production-moved.columns", "target/production-again.desk"].map(|name| root().join(name));
+    for file in [&made, &made_again] {
+        let _ = fs::remove_file(file);
+    }
+    let by_month = to_columns(&book(), 1985, usize::MAX).expect("a file");
+    for (run, output, made, file) in [(&runs[0], String::new(), &made, by_month), (&runs[1], year_line(1985), &made_again, book())] {
+        assert_eq!(given(&shell(run)), (0, output, String::new()), "{run}");
+        assert_eq!(fs::read(made).expect("a file"), file, "{run}");
+    }
+    assert_eq!(runs.len(), 2);
+}
+
+/// Forward, and back again; also where what is not used is closed or full.
+#[test]
+fn columns_there_and_back() {
+    let [small, longest] = accepted();
+    for (plain, year) in [(&small, 1), (&small, 256), (&small, 9993), (&longest, 1), (&longest, 2021), (&longest, 9950)] {
+        let by_month = to_columns(plain, year, usize::MAX).expect("a file");
+        for redirections in ["", ">/dev/full", ">&-", "2>&-", ">&- 2>&-", "<&- >&- 2>&-"] {
+            let (from, to) = (stored("there.desk", plain), free("there.columns"));
+            assert_eq!(COLUMNS.on(&[&from, &to, word(&year.to_string())], redirections), SILENT, "{year}, {redirections}");
+            assert_eq!(fs::read(&to).expect("a file"), by_month, "{year}, {redirections}");
+        }
+        for redirections in ["", "2>/dev/full", "2>&-", "<&- 2>&-"] {
+            let (from, to) = (stored("back.columns", &by_month), free("back.desk"));
+            assert_eq!(COLUMNS.on(&[&from, &to], redirections), (0, year_line(year), String::new()), "{year}, {redirections}");
+            assert_eq!(&fs::read(&to).expect("a file"), plain, "{year}, {redirections}");
+        }
+    }
+}
+
+/// A file by calendar month with one thing changed: 72 months from July of 2021.
+fn changed(change: impl Fn(&mut [i32; 72], &mut [u16; 72], &mut u16)) -> Vec<u8> {
+    let (mut figures, mut weights, mut year) = ([100; 72], [1000; 72], 2021);
+    change(&mut figures, &mut weights, &mut year);
+    columns::bytes_of(&figures, 7, year, &weights)
+}
+
+/// Files by calendar month that are refused, with the number and the place. From July t 5 is a December and stands after t 6, a January.
+fn refused_by_month() -> Vec<(Vec<u8>, u8, usize)> {
+    let same = |n: usize| columns::bytes_of(&vec![100; n], 7, 2021, &vec![1000; n]);
+    let with_byte = |place: usize, byte: u8| {
+        let mut file = same(72);
+        file[place] = byte;
+        file
+    };
+    let mut longer = same(600);
+    longer.extend([0; 2000]);
+    vec![
+        (same(71), 1, 0),
+        (same(601), 2, 0),
+        (with_byte(2, 13), 3, 0),
+        (changed(|figures, _, _| (figures[5], figures[6]) = (-200_001, 200_001)), 5, 5),
+        (vec![], 7, 0),
+        (same(72)[..5].to_vec(), 7, 0),
+        (with_byte(3, 4), 8, 0),
+        (same(72)[..437].to_vec(), 9, 0),
+        (longer[..3607].to_vec(), 9, 0),
+        (longer, 9, 0),
+        (book(), 9, 0),
+        (changed(|_, weights, _| (weights[5], weights[6]) = (1001, 1001)), 10, 5),
+        (changed(|_, _, year| *year = 0), 11, 0),
+        (changed(|_, _, year| *year = 9994), 11, 0),
+        (changed(|_, _, year| *year = 65_535), 11, 0),
+    ]
+}
+
+/// A refusal is said on standard error, its number is the exit status, and nothing is made.
+fn assert_refused(words: &[&Path], number: u8, place: usize) {
+    let status = i32::from(number);
+    assert_eq!(COLUMNS.on(words, ""), (status, String::new(), refusal_line(number, place)), "{words:?}");
+    for redirections in ["2>/dev/full", "2>&-", ">&- 2>&-"] {
+        assert_eq!(COLUMNS.on(words, redirections), (status, String::new(), String::new()), "{words:?}, {redirections}");
+    }
+    assert!(!words[1].exists(), "{words:?}");
+}
+
+#[test]
+fn columns_refuses_files() {
+    let to = free("refused-out");
+    for (file, number, place) in refused() {
+        assert_eq!(to_columns(&file, 2021, usize::MAX), Err(Refusal { number, place }));
+        assert_refused(&[&stored("refused-forward", &file), &to, word("2021")], number, place);
+    }
+    for (file, number, place) in refused_by_month() {
+        assert_eq!(from_columns(&file, usize::MAX), Err(Refusal { number, place }));
+        assert_refused(&[&stored("refused-back", &file), &to], number, place);
+    }
+    assert_refused(&[&stored("refused-forward", &changed(|_, _, _| ())), &to, word("2021")], 9, 0);
+}
+
+/// Years that are refused; cut to 16, 32 or 64 bits those of the second line would be 1985.
+#[test]
+fn columns_refuses_years() {
+    let (from, to) = (stored("years.desk", &book()), free("years.columns"));
+    for year in ["0", "-0", "-1", "9990", "9999", "10000", "32768", "65535", "65536", "-32768", "99999999999999999999", "-99999999999999999999",
+        "67521", "-63551", "4294969281", "-4294965311", "18446744073709553601", "-18446744073709549631"] {
+        let nearest = year.parse::<i128>().expect("a number").clamp(0, u16::MAX.into()) as u16;
+        assert_eq!(to_columns(&book(), nearest, usize::MAX), Err(Refusal { number: 11, place: 0 }), "{year}");
+        assert_refused(&[&from, &to, word(year)], 11, 0);
+    }
+}
+
+#[test]
+fn columns_without_input() {
+    let (from, to) = (stored("not-moved.desk", &book()), free("not-moved-out"));
+    for (from, why) in [(own("missing.desk"), "No such file or directory"), (root().join("examples"), "Is a directory")] {
+        let named = format!("{}: {why}", from.display());
+        assert_failed(COLUMNS.on(&[&from, &to], ""), &named, &named);
+        assert_failed(COLUMNS.on(&[&from, &to, word("2021")], ""), &named, &named);
+    }
+    let usage = "usage: columns PLAIN OUT YEAR, or columns BY-MONTH OUT";
+    for words in [&[][..], &[from.as_path()], &[&from, &to, word("2021"), word("1")]] {
+        assert_failed(COLUMNS.on(words, ""), usage, usage);
+    }
+    for year in ["", " ", "-", "x", "2021x", "2021 ", "20 21", "2021.0", "2021-03", "x2021", "\u{661}"] {
+        assert_failed(COLUMNS.on(&[&from, &to, word(year)], ""), usage, year);
+    }
+    assert!(!to.exists());
+}
+
+#[test]
+fn columns_without_output() {
+    let [_, longest] = accepted();
+    let by_month = to_columns(&longest, 2021, usize::MAX).expect("a file");
+    try_without_output(&COLUMNS, "forward", &longest, &[word("2021")]);
+    try_half_written(&COLUMNS, "forward", &longest, &[word("2021")]);
+    try_without_output(&COLUMNS, "back", &by_month, &[]);
+    try_half_written(&COLUMNS, "back", &by_month, &[]);
+    let (from, to) = (stored("untold.columns", &by_month), free("untold.desk"));
+    for (redirection, why) in [(">/dev/full", "No space left on device"), (">&-", "Bad file descriptor")] {
+        assert_failed(COLUMNS.on(&[&from, &to], redirection), &format!("standard output: {why}"), redirection);
+        assert!(!to.exists(), "{redirection}");
+        for error in ["2>/dev/full", "2>&-"] {
+            let redirections = format!("{redirection} {error}");
+            assert_eq!(COLUMNS.on(&[&from, &to], &redirections), (FAILED, String::new(), String::new()), "{redirections}");
+            assert!(!to.exists(), "{redirections}");
+        }
     }
 }
 
@@ -382,14 +559,20 @@ fn examples_in_c_close_their_files() {
     let (folder, missing) = (root().join("examples"), own("missing.desk"));
     let printing = Example::counting_streams("examples/decompose.c");
     let writing = Example::counting_streams("examples/final-weights.c");
+    let moving = Example::counting_streams("examples/columns.c");
     for (from, status) in [(&book_file, 0), (&refused_file, 7), (&folder, FAILED), (&missing, FAILED)] {
         assert_eq!(printing.on(&[from], "").0, status, "printing {}", from.display());
         assert_eq!(writing.on(&[from, &free("closed.desk")], "").0, status, "writing from {}", from.display());
+        assert_eq!(moving.on(&[from, &free("closed.columns"), word("1985")], "").0, status, "moving from {}", from.display());
     }
+    let by_month = stored("closing.columns", &to_columns(&book(), 1985, usize::MAX).expect("a file"));
+    assert_eq!(moving.on(&[&by_month, &free("closed.desk")], "").0, 0, "moving back");
     let [_, longest] = accepted();
     let from = stored("closing-longest.desk", &longest);
-    let half = writing.output(HALF, &[&from, &free("closed.desk")], "");
-    assert_eq!(half.status.code(), Some(FAILED), "half-written");
+    for (example, after) in [(&writing, &[][..]), (&moving, &[word("1985")])] {
+        let half = example.output(HALF, &names(&from, &free("closed.desk"), after), "");
+        assert_eq!(half.status.code(), Some(FAILED), "half-written");
+    }
 }
 
 fn number<T: std::fmt::Debug>(answer: Result<T, Refusal>) -> usize {
@@ -401,6 +584,7 @@ fn constants() -> Vec<(&'static str, usize)> {
     let series = |n| decompose_fitting(&vec![0; n], 1);
     let file = |bytes: &[u8]| read(bytes, MOST_MONTHS, MOST_MONTHS);
     let length = |n| write(&vec![0; n], 1, &vec![0; n], usize::MAX).unwrap().len();
+    let columns_length = |n| write_columns(&vec![0; n], 1, 1, &vec![0; n], usize::MAX).unwrap().len();
     let right = Lent::right_for(72);
     vec![
         ("VERSION_MAJOR", VERSION[0]),
@@ -412,9 +596,13 @@ fn constants() -> Vec<(&'static str, usize)> {
         ("LARGEST_FIGURE", FIGURE_LIMIT as usize),
         ("UNIT", decompose_fitting(&[1; 72], 1).unwrap().b1[0] as usize),
         ("FULL_WEIGHT", series(72).unwrap().c17[0].into()),
-        ("SCRATCH_FOR(72)", right.scratch),
-        ("FILE_LENGTH(72)", length(72)),
+        ("EARLIEST_YEAR", EARLIEST_YEAR),
+        ("LATEST_YEAR", LATEST_YEAR),
+        ("SCRATCH_FOR(71 + 1)", right.scratch),
+        ("FILE_LENGTH(71 + 1)", length(72)),
         ("LONGEST_FILE", length(MOST_MONTHS)),
+        ("COLUMNS_LENGTH(71 + 1)", columns_length(72)),
+        ("LONGEST_COLUMNS", columns_length(MOST_MONTHS)),
         ("SUCCESS", 0),
         ("TOO_SHORT", number(series(71))),
         ("TOO_LONG", number(series(601))),
@@ -426,6 +614,7 @@ fn constants() -> Vec<(&'static str, usize)> {
         ("BAD_PERIOD", number(file(&bytes_of(&[0; 72], 1, 4, &[0; 72])))),
         ("BAD_FILE_LENGTH", number(file(&[72, 0, 1, 12]))),
         ("WEIGHT_ABOVE", number(file(&bytes_of(&[0; 72], 1, 12, &[1001; 72])))),
+        ("BAD_YEARS", number(write_columns(&[0; 72], 1, 0, &[0; 72], usize::MAX))),
     ]
 }
 
@@ -436,7 +625,7 @@ fn every_constant_is_known() {
         .lines()
         .filter_map(|line| line.trim_start().strip_prefix('#')?.trim_start().strip_prefix("define"))
         .map(|rest| rest.trim_start().strip_prefix("VEPSJALM_").expect("a name of this header"))
-        .map(|rest| rest.split(' ').next().expect("a name").replace("(n)", "(72)"))
+        .map(|rest| rest.split(' ').next().expect("a name").replace("(n)", "(71 + 1)"))
         .collect();
     let known: Vec<&str> = ["H", "VERSION"].into_iter().chain(constants().iter().map(|(name, _)| *name)).collect();
     assert_eq!(names, known);
@@ -461,18 +650,51 @@ fn built_in(name: &str, (compiler, language): (&str, &str)) -> PathBuf {
     program
 }
 
+/// Number, length and place of an answer that is a file.
+fn sized(answer: &Result<Vec<u8>, Refusal>) -> (u8, usize, usize) {
+    answer.as_ref().map_or_else(|refusal| (refusal.number, 0, refusal.place), |file| (0, file.len(), 0))
+}
+
+/// What header.c must print of an accepted plain file and a first year, and the bytes of the files that it makes.
+fn through_both_forms(file: &[u8], first_year: u16) -> (String, Vec<u8>) {
+    let DeskSeries { start, figures, weights } = read(file, MOST_MONTHS, MOST_MONTHS).expect("an accepted file");
+    let mut text = format!("read 0 {} {start} 0\nwrite 0 {} 0\n", figures.len(), file.len());
+    let written = write_columns(&figures, start, first_year, &weights, usize::MAX);
+    let (number, size, place) = sized(&written);
+    text += &format!("write_columns {number} {size} {place}\n");
+    let written = written.unwrap_or_default();
+    text += &match read_columns(&written, MOST_MONTHS, MOST_MONTHS) {
+        Ok(series) => format!("read_columns 0 {} {} {} 0\n", series.n(), series.start, series.first_year),
+        Err(Refusal { number, place }) => format!("read_columns {number} 0 0 0 {place}\n"),
+    };
+    let forward = to_columns(file, first_year, usize::MAX);
+    let (number, size, place) = sized(&forward);
+    text += &format!("unlike 0\nto_columns {number} {size} {place}\n");
+    let forward = forward.unwrap_or_default();
+    let back = from_columns(&forward, usize::MAX);
+    let told = back.as_ref().map_or(0, |(_, year)| *year);
+    let back = back.map(|(file, _)| file);
+    let (number, size, place) = sized(&back);
+    text += &format!("from_columns {number} {size} {told} {place}\n");
+    (text, [file.to_vec(), written, forward, back.unwrap_or_default()].concat())
+}
+
 #[test]
 fn header_in_c_and_cpp() {
     let [major, minor, patch] = VERSION;
     let mut lines = vec![format!("VEPSJALM_VERSION {major}.{minor}.{patch}\n")];
     lines.extend(constants().iter().map(|(name, value)| format!("VEPSJALM_{name} {value}\n")));
     lines.extend((0..256).map(|number| format!("{number} {}\n", TEXTS.get(number).unwrap_or(&NO_TEXT))));
-    lines.extend(["read 0 114 10 0\n".to_string(), "write 0 688 0\n".to_string()]);
+    let [small, longest] = accepted();
     for language in languages() {
         let program = built_in("header", language);
-        let output = Command::new(&program).arg(root().join("examples/production.desk")).output().expect("a run");
-        assert!(output.stdout.ends_with(&book()), "{language:?}: what was read is written again");
-        assert_eq!(text(&output.stdout[..output.stdout.len() - book().len()]), lines.concat(), "{language:?}");
+        for (file, year) in [(&book(), 1985), (&small, 1), (&longest, 9950), (&book(), 0), (&longest, 9951)] {
+            let (answers, bytes) = through_both_forms(file, year);
+            let from = stored("header.desk", file);
+            let output = Command::new(&program).arg(from).arg(year.to_string()).output().expect("a run");
+            let shown = output.stdout.strip_suffix(&bytes[..]).unwrap_or_else(|| panic!("{language:?}, {year}: other files"));
+            assert_eq!(text(shown), lines.concat() + &answers, "{language:?}, {year}");
+        }
     }
 }
 

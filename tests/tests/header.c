@@ -1,14 +1,29 @@
-/* Prints the constants of the header by name, the text of every refusal's number, the answers of reading the desk file named on the command
-   line and of writing it again, and then the bytes written. callers.rs builds it as C and as C++. */
+/* Prints the constants of the header by name and the text of every refusal's number. Then it takes the plain desk file named on the command
+   line, and the first year that follows, through the functions for both forms: reading and writing it again, writing its series by calendar
+   month and reading that, moving the file forward and back. It prints the answers, and then the bytes of the four files made, in this order.
+   callers.rs builds it as C and as C++. */
 #include <inttypes.h>
 #include <stdio.h>
+#include <stdlib.h>
 #include "vepsjalm.h"
 
 #define SHOW(constant) printf("%s %ld\n", #constant, (long)(constant))
 
-static uint8_t file[VEPSJALM_LONGEST_FILE], out[VEPSJALM_LONGEST_FILE];
-static int32_t figures[VEPSJALM_MOST_MONTHS];
-static uint16_t weights[VEPSJALM_MOST_MONTHS];
+struct series {
+    int32_t figures[VEPSJALM_MOST_MONTHS];
+    uint16_t weights[VEPSJALM_MOST_MONTHS], first_year;
+    size_t count;
+    uint8_t start;
+};
+
+/* Bytes, with room for the longest file of either form. */
+struct bytes {
+    uint8_t of[VEPSJALM_LONGEST_COLUMNS];
+    size_t size;
+};
+
+static struct series plain, by_month;
+static struct bytes file, again, columns, forward, back;
 
 static void show_constants(void)
 {
@@ -22,9 +37,17 @@ static void show_constants(void)
     SHOW(VEPSJALM_LARGEST_FIGURE);
     SHOW(VEPSJALM_UNIT);
     SHOW(VEPSJALM_FULL_WEIGHT);
-    SHOW(VEPSJALM_SCRATCH_FOR(72));
-    SHOW(VEPSJALM_FILE_LENGTH(72));
+    SHOW(VEPSJALM_EARLIEST_YEAR);
+    SHOW(VEPSJALM_LATEST_YEAR);
+    SHOW(VEPSJALM_SCRATCH_FOR(71 + 1));
+    SHOW(VEPSJALM_FILE_LENGTH(71 + 1));
     SHOW(VEPSJALM_LONGEST_FILE);
+    SHOW(VEPSJALM_COLUMNS_LENGTH(71 + 1));
+    SHOW(VEPSJALM_LONGEST_COLUMNS);
+}
+
+static void show_refusals(void)
+{
     SHOW(VEPSJALM_SUCCESS);
     SHOW(VEPSJALM_TOO_SHORT);
     SHOW(VEPSJALM_TOO_LONG);
@@ -36,29 +59,73 @@ static void show_constants(void)
     SHOW(VEPSJALM_BAD_PERIOD);
     SHOW(VEPSJALM_BAD_FILE_LENGTH);
     SHOW(VEPSJALM_WEIGHT_ABOVE);
-}
-
-static void show_texts(void)
-{
+    SHOW(VEPSJALM_BAD_YEARS);
     for (int number = 0; number <= UINT8_MAX; number++)
         printf("%d %s\n", number, vepsjalm_refusal_text((uint8_t)number));
+}
+
+/* The plain form: `file` read, and written to `again`. */
+static void through_plain(struct series *s)
+{
+    size_t place;
+    int number = vepsjalm_read(
+        file.of, file.size, s->figures, VEPSJALM_MOST_MONTHS, s->weights, VEPSJALM_MOST_MONTHS, &s->count, &s->start, &place);
+    printf("read %d %zu %d %zu\n", number, s->count, s->start, place);
+    number = vepsjalm_write(s->figures, s->count, s->start, s->weights, s->count, again.of, VEPSJALM_LONGEST_FILE, &again.size, &place);
+    printf("write %d %zu %zu\n", number, again.size, place);
+}
+
+/* By calendar month: the series of `from` written to `columns`, which is read into `to`. */
+static void through_columns(const struct series *from, struct series *to)
+{
+    size_t place;
+    int number = vepsjalm_write_columns(
+        from->figures, from->count, from->start, from->first_year, from->weights, from->count, columns.of, VEPSJALM_LONGEST_COLUMNS,
+        &columns.size, &place);
+    printf("write_columns %d %zu %zu\n", number, columns.size, place);
+    number = vepsjalm_read_columns(
+        columns.of, columns.size, to->figures, VEPSJALM_MOST_MONTHS, to->weights, VEPSJALM_MOST_MONTHS, &to->count, &to->start,
+        &to->first_year, &place);
+    printf("read_columns %d %zu %d %d %zu\n", number, to->count, to->start, to->first_year, place);
+    int unlike = 0;
+    for (size_t t = 0; t < to->count; t++)
+        unlike += to->figures[t] != from->figures[t] || to->weights[t] != from->weights[t];
+    printf("unlike %d\n", unlike);
+}
+
+/* `file` moved to `forward`, and that to `back`. */
+static void there_and_back(uint16_t first_year)
+{
+    size_t place;
+    int number = vepsjalm_to_columns(file.of, file.size, first_year, forward.of, VEPSJALM_LONGEST_COLUMNS, &forward.size, &place);
+    printf("to_columns %d %zu %zu\n", number, forward.size, place);
+    uint16_t told = UINT16_MAX;
+    number = vepsjalm_from_columns(forward.of, forward.size, back.of, VEPSJALM_LONGEST_FILE, &back.size, &told, &place);
+    printf("from_columns %d %zu %d %zu\n", number, back.size, told, place);
+}
+
+static void show_bytes(const struct bytes *bytes)
+{
+    fwrite(bytes->of, 1, bytes->size, stdout);
 }
 
 int main(int arguments, char **words)
 {
     show_constants();
-    show_texts();
-    FILE *stream = arguments > 1 ? fopen(words[1], "rb") : NULL;
+    show_refusals();
+    FILE *stream = arguments > 2 ? fopen(words[1], "rb") : NULL;
     if (stream == NULL)
         return 100;
-    size_t size = fread(file, 1, sizeof file, stream);
+    file.size = fread(file.of, 1, sizeof file.of, stream);
     fclose(stream);
-    size_t count, place, written;
-    uint8_t start;
-    int number = vepsjalm_read(file, size, figures, VEPSJALM_MOST_MONTHS, weights, VEPSJALM_MOST_MONTHS, &count, &start, &place);
-    printf("read %d %zu %d %zu\n", number, count, start, place);
-    number = vepsjalm_write(figures, count, start, weights, count, out, sizeof out, &written, &place);
-    printf("write %d %zu %zu\n", number, written, place);
-    fwrite(out, 1, written, stdout);
+    plain.first_year = (uint16_t)atoi(words[2]);
+    by_month.first_year = UINT16_MAX;
+    through_plain(&plain);
+    through_columns(&plain, &by_month);
+    there_and_back(plain.first_year);
+    show_bytes(&again);
+    show_bytes(&columns);
+    show_bytes(&forward);
+    show_bytes(&back);
     return 0;
 }

@@ -1,8 +1,9 @@
-//! `examples/make-desk`, which makes a desk file of a list or a table of figures: the files that it makes beside the separately written
-//! writer and reader, and what it says of input that it refuses.
+//! `examples/make-desk`, which makes a desk file in either form of a list or a table of figures: the files that it makes beside the separately
+//! written writers and readers, and what it says of input that it refuses.
 
-use separate::decompose::{FEWEST_MONTHS, FIGURE_LIMIT, MOST_MONTHS};
-use separate::desk::{bytes_of, read, DeskSeries};
+use separate::columns::{read_columns, write_columns, ColumnsSeries, LATEST_YEAR};
+use separate::decompose::{Refusal, FEWEST_MONTHS, FIGURE_LIMIT, MOST_MONTHS};
+use separate::desk::{read, write, DeskSeries};
 use separate::generators::{book_series, Dice};
 use std::fs;
 use std::io::Write;
@@ -10,6 +11,9 @@ use std::path::Path;
 use std::process::{Command, Output, Stdio};
 
 const BYTE_ORDER_MARK: &[u8] = b"\xef\xbb\xbf";
+
+/// The first year of tables, and that given beside a list, where no other is named.
+const YEAR: u16 = 2021;
 
 fn root() -> &'static Path {
     Path::new(env!("CARGO_MANIFEST_DIR")).parent().expect("the repository's folder")
@@ -33,18 +37,44 @@ fn make_desk(arguments: &[&str], input: &[u8]) -> Output {
     child.wait_with_output().expect("a run")
 }
 
+/// The plain file, which gives the same when it is read.
 fn desk(figures: &[i32], start: u8) -> Vec<u8> {
-    bytes_of(figures, start, 12, &vec![1000; figures.len()])
+    let weights = vec![1000; figures.len()];
+    let file = write(figures, start, &weights, usize::MAX).expect("a file");
+    let series = DeskSeries { start, figures: figures.to_vec(), weights };
+    assert_eq!(read(&file, MOST_MONTHS, MOST_MONTHS), Ok(series));
+    file
 }
 
-/// The input gives the desk file of these figures, and nothing is said.
-fn assert_made(arguments: &[&str], input: &[u8], figures: &[i32], start: u8) {
+/// The file by calendar month, likewise.
+fn columns(figures: &[i32], start: u8, first_year: u16) -> Vec<u8> {
+    let weights = vec![1000; figures.len()];
+    let file = write_columns(figures, start, first_year, &weights, usize::MAX).expect("a file");
+    let series = ColumnsSeries { start, first_year, figures: figures.to_vec(), weights };
+    assert_eq!(read_columns(&file, MOST_MONTHS, MOST_MONTHS), Ok(series));
+    file
+}
+
+/// The arguments for a file by calendar month of the same input.
+fn by_month<'a>(arguments: &[&'a str]) -> Vec<&'a str> {
+    match arguments {
+        [] => vec!["-c"],
+        _ => [&["-c", "2021"], arguments].concat(),
+    }
+}
+
+/// The input gives this file, and nothing is said.
+fn assert_file(arguments: &[&str], input: &[u8], file: &[u8]) {
     let output = make_desk(arguments, input);
     let shown = format!("{arguments:?}, {:?}", text(&input[..input.len().min(80)]));
     assert_eq!((output.status.code(), text(&output.stderr)), (Some(0), String::new()), "{shown}");
-    assert_eq!(output.stdout, desk(figures, start), "{shown}");
-    let series = DeskSeries { start, figures: figures.to_vec(), weights: vec![1000; figures.len()] };
-    assert_eq!(read(&output.stdout, MOST_MONTHS, MOST_MONTHS), Ok(series), "{shown}");
+    assert_eq!(output.stdout, file, "{shown}");
+}
+
+/// The input gives the desk file of these figures, and that by calendar month.
+fn assert_made(arguments: &[&str], input: &[u8], figures: &[i32], start: u8) {
+    assert_file(arguments, input, &desk(figures, start));
+    assert_file(&by_month(arguments), input, &columns(figures, start, YEAR));
 }
 
 /// The run ends with this status, writes nothing, and says this in one line.
@@ -55,8 +85,10 @@ fn assert_ends(output: &Output, status: i32, why: &str) {
     assert_eq!(output.stdout, b"", "{why}");
 }
 
+/// The input is refused for this, in both forms.
 fn assert_refused(arguments: &[&str], input: &[u8], why: &str) {
     assert_ends(&make_desk(arguments, input), 1, why);
+    assert_ends(&make_desk(&by_month(arguments), input), 1, why);
 }
 
 /// Figures of both signs, of one digit to six.
@@ -74,30 +106,31 @@ fn list(figures: &[i32], between: &str) -> Vec<u8> {
 /// How a table is written.
 #[derive(Clone, Copy)]
 struct Form {
+    year: u16,
     dates: usize,
     separator: &'static str,
     heading: &'static str,
     line_end: &'static str,
 }
 
-const PLAIN: Form = Form { dates: 0, separator: ",", heading: "", line_end: "\n" };
+const PLAIN: Form = Form { year: YEAR, dates: 0, separator: ",", heading: "", line_end: "\n" };
 const SEPARATORS: [&str; 10] = [",", ";", "\t", " ", " , ", "; ", "\t;", "  ", " \t", ",\t "];
 
 /// A date in one of four forms.
 fn date(form: usize, year: usize, month: usize) -> String {
     match form {
-        0 => format!("{year}-{month:02}"),
-        1 => format!("{year} {month}"),
-        2 => format!("{year}-{month}"),
-        _ => format!("{year} {month:02}"),
+        0 => format!("{year:04}-{month:02}"),
+        1 => format!("{year:04} {month}"),
+        2 => format!("{year:04}-{month}"),
+        _ => format!("{year:04} {month:02}"),
     }
 }
 
-/// The lines of a table of the figures, from the start month of 2021.
+/// The lines of a table of the figures, from the start month of the first year.
 fn lines(figures: &[i32], start: u8, form: Form) -> Vec<String> {
     let first = usize::from(start) - 1;
     let line = |(t, figure): (usize, &i32)| {
-        let date = date(form.dates, 2021 + (first + t) / 12, (first + t) % 12 + 1);
+        let date = date(form.dates, usize::from(form.year) + (first + t) / 12, (first + t) % 12 + 1);
         format!("{date}{}{figure}{}", form.separator, form.line_end)
     };
     figures.iter().enumerate().map(line).collect()
@@ -108,12 +141,42 @@ fn table(figures: &[i32], start: u8, form: Form) -> Vec<u8> {
 }
 
 #[test]
-fn the_example_in_both_forms() {
-    for command in ["examples/make-desk 10 < examples/production.txt", "examples/make-desk < examples/production.csv"] {
+fn the_example_of_a_list_and_of_a_table() {
+    let plain = fs::read(root().join("examples/production.desk")).expect("the example");
+    assert_eq!(plain, desk(&book_series(), 10));
+    let by_month = columns(&book_series(), 10, 1985);
+    for (command, file) in [
+        ("examples/make-desk 10 < examples/production.txt", &plain),
+        ("examples/make-desk < examples/production.csv", &plain),
+        ("examples/make-desk -c 1985 10 < examples/production.txt", &by_month),
+        ("examples/make-desk -c < examples/production.csv", &by_month),
+    ] {
         let output = shell(command);
         assert_eq!((output.status.code(), text(&output.stderr)), (Some(0), String::new()), "{command}");
-        assert_eq!(output.stdout, desk(&book_series(), 10), "{command}");
-        assert_eq!(output.stdout, fs::read(root().join("examples/production.desk")).expect("the example"), "{command}");
+        assert_eq!(&output.stdout, file, "{command}");
+    }
+}
+
+/// The bytes that a line of README shows: those before dots or a gap.
+fn shown_bytes(line: &str) -> Vec<u8> {
+    let (bytes, _) = line.trim().split_once("  ").expect("bytes and what they are");
+    bytes.split(' ').map(|byte| u8::from_str_radix(byte, 16).expect("a byte")).collect()
+}
+
+#[test]
+fn readme_shows_the_bytes() {
+    let readme = fs::read_to_string(root().join("README.md")).expect("README");
+    let (hundreds, counted): (Vec<i32>, Vec<i32>) = (vec![100; 72], (0..72).collect());
+    for (mark, file, places) in [
+        ("The file of 72 figures of 100 from January, all weights 1,000, in hexadecimal:", desk(&hundreds, 1), &[0, 4, 292][..]),
+        ("The file of the figures 0 to 71 from March 2021, all weights 1,000:", columns(&counted, 3, 2021), &[0, 6, 30, 294]),
+    ] {
+        let (_, rest) = readme.split_once(&format!("{mark}\n\n")).unwrap_or_else(|| panic!("{mark}"));
+        let (lines, _) = rest.split_once("\n\n").expect("their end");
+        assert_eq!(lines.lines().count(), places.len(), "{mark}");
+        for (line, place) in lines.lines().zip(places) {
+            assert!(file[*place..].starts_with(&shown_bytes(line)), "{line}");
+        }
     }
 }
 
@@ -124,6 +187,60 @@ fn every_start_month() {
         assert_made(&[&start.to_string()], &list(&figures, "\n"), &figures, start);
         assert_made(&[&format!("{start:02}")], &list(&figures, "\n"), &figures, start);
         assert_made(&[], &table(&figures, start, PLAIN), &figures, start);
+    }
+}
+
+/// First years of one digit to four, whose last month is in 9999 at the latest; beside a list also with zeros in front.
+#[test]
+fn every_size_of_year() {
+    let figures = some_figures(74);
+    for year in [1, 9, 10, 33, 255, 256, 257, 999, 1000, 1985, 2560, 9990, 9993] {
+        let file = columns(&figures, 11, year);
+        for word in [format!("{year}"), format!("{year:02}"), format!("{year:03}"), format!("{year:04}")] {
+            assert_file(&["-c", &word, "11"], &list(&figures, "\n"), &file);
+        }
+        for dates in 0..4 {
+            assert_file(&["-c"], &table(&figures, 11, Form { year, dates, ..PLAIN }), &file);
+        }
+    }
+}
+
+/// The latest first year of so many months from a start month, and the place of the month after December 9999 if the first year is one more.
+const LATEST_YEARS: [(usize, u8, u16, usize); 8] = [(72, 1, 9994, 60), (72, 2, 9993, 71), (72, 12, 9993, 61), (73, 1, 9993, 72),
+    (84, 1, 9993, 72), (85, 2, 9992, 83), (600, 1, 9950, 588), (600, 12, 9949, 589)];
+
+#[test]
+fn years_after_9999() {
+    let years = Err(Refusal { number: 11, place: 0 });
+    for (n, start, latest, place) in LATEST_YEARS {
+        let (figures, word) = (some_figures(n), start.to_string());
+        assert_file(&["-c", &latest.to_string(), &word], &list(&figures, "\n"), &columns(&figures, start, latest));
+        assert_file(&["-c"], &table(&figures, start, Form { year: latest, ..PLAIN }), &columns(&figures, start, latest));
+        assert_eq!(write_columns(&figures, start, latest + 1, &vec![1000; n], usize::MAX), years);
+        let refused = |year: u16, line: usize| {
+            let why = format!("line {line}: a month of the year 10000, outside 1 to 9999");
+            assert_ends(&make_desk(&["-c", &year.to_string(), &word], &list(&figures, "\n")), 1, &why);
+            let why = "line 1: a month of the year 10000, outside 1 to 9999";
+            assert_ends(&make_desk(&["-c", &year.to_string(), &word], &list(&figures, " ")), 1, why);
+        };
+        refused(latest + 1, place + 1);
+        refused(9999, 14 - usize::from(start));
+        // A date of five digits is none, in either form.
+        let why = format!("line {}: no year, month and figure, as 2021-03,1157", place + 1);
+        assert_refused(&[], &table(&figures, start, Form { year: latest + 1, ..PLAIN }), &why);
+    }
+}
+
+/// A table may begin in the year 0 only where the file has no year.
+#[test]
+fn the_year_0() {
+    let figures = some_figures(75);
+    for (start, heading, line) in [(1, "", 1), (12, "", 1), (5, "date,figure\n\n", 3)] {
+        let input = table(&figures, start, Form { year: 0, heading, ..PLAIN });
+        assert_file(&[], &input, &desk(&figures, start));
+        assert_ends(&make_desk(&["-c"], &input), 1, &format!("line {line}: a month of the year 0, outside 1 to 9999"));
+        let years = Err(Refusal { number: 11, place: 0 });
+        assert_eq!(write_columns(&figures, start, 0, &[1000; 75], usize::MAX), years);
     }
 }
 
@@ -194,19 +311,36 @@ fn tables_with_headings_and_line_ends() {
     }
 }
 
+/// What is no start month.
+const NO_STARTS: [&str; 29] = ["0", "00", "13", "20", "100", "257", "-1", "+1", "1x", "x", "", " ", " 1", "1 ", "1\n", "1 2", "1.0", "1e0",
+    "001", "*", "010", "[1-9]", "\u{661}", "-v", "--help", "99999999999999999999", "1\\n", "0x1", "Jan"];
+
+/// What is no year.
+const NO_YEARS: [&str; 29] = ["0", "00", "000", "0000", "00000", "10000", "02021", "12021", "67557", "99999999999999999999", "-1", "+1",
+    "-2021", "2021x", "x", "", " ", " 2021", "2021 ", "2021\n", "20 21", "2021.0", "2e3", "*", "????", "[1-9]", "\u{661}", "-c", "0x1"];
+
 /// Wrong use prints the script's first line of heading.
 #[test]
 fn wrong_use() {
     let script = fs::read_to_string(root().join("examples/make-desk")).expect("make-desk");
     let line = script.lines().nth(1).and_then(|line| line.strip_prefix("# ")).expect("a heading");
-    assert_eq!(line, "make-desk START < FIGURES > FILE, or make-desk < TABLE > FILE");
+    assert_eq!(line, "make-desk [-c YEAR] START < FIGURES > FILE, or make-desk [-c] < TABLE > FILE");
     let input = list(&some_figures(72), "\n");
-    for start in ["0", "00", "13", "20", "100", "257", "-1", "+1", "1x", "x", "", " ", " 1", "1 ", "1\n", "1 2", "1.0", "1e0", "001", "*",
-        "010", "[1-9]", "\u{661}", "-v", "--help", "99999999999999999999", "1\\n", "0x1", "Jan"] {
-        assert_ends(&make_desk(&[start], &input), 2, &format!("START is no month from 1 to 12; use: {line}"));
+    let assert_wrong = |arguments: &[&str], why: &str| assert_ends(&make_desk(arguments, &input), 2, &format!("{why}; use: {line}"));
+    for start in NO_STARTS {
+        assert_wrong(&[start], "START is no month from 1 to 12");
+        assert_wrong(&["-c", "2021", start], "START is no month from 1 to 12");
     }
-    for arguments in [&["1", "2"][..], &["1", ""], &["", ""], &["1", "2", "3"], &["13", "1"], &["1", "examples/production.txt"]] {
-        assert_ends(&make_desk(arguments, &input), 2, &format!("more than one argument; use: {line}"));
+    for year in NO_YEARS {
+        assert_wrong(&["-c", year, "1"], "YEAR is no year from 1 to 9999");
+        assert_wrong(&["-c", year, "13"], "YEAR is no year from 1 to 9999");
+    }
+    for arguments in [&["1", "2"][..], &["1", ""], &["", ""], &["1", "2", "3"], &["13", "1"], &["1", "examples/production.txt"],
+        &["1", "-c"], &["1", "-c", "2021"], &["2021", "1"], &["--", "1"], &["-c2021", "1"], &["", "-c"]] {
+        assert_wrong(arguments, "more than one argument");
+    }
+    for arguments in [&["1"][..], &["2021"], &[""], &["-c"], &["2021", "1", "2"], &["2021", "1", ""], &["", "", "", ""]] {
+        assert_wrong(&[&["-c"], arguments].concat(), "-c takes YEAR and START, or neither");
     }
 }
 
@@ -341,7 +475,7 @@ fn too_many_figures() {
 /// Input that breaks off is tried by reads that fail at once: a directory, a closed input.
 #[test]
 fn input_that_cannot_be_read() {
-    for input in ["10 < examples", "< examples", "10 <&-", "<&-"] {
+    for input in ["10 < examples", "< examples", "10 <&-", "<&-", "-c 1985 10 < examples", "-c <&-"] {
         assert_ends(&shell(&format!("examples/make-desk {input}")), 3, "the input could not be read");
     }
 }
@@ -363,14 +497,14 @@ fn dates_beside_a_start() {
 #[test]
 fn output_that_cannot_be_written() {
     for output in ["> /dev/full", ">&-"] {
-        for input in ["10 < examples/production.txt", "< examples/production.csv"] {
+        for input in ["10 < examples/production.txt", "< examples/production.csv", "-c < examples/production.csv"] {
             assert_ends(&shell(&format!("examples/make-desk {input} {output}")), 3, "the output could not be written");
         }
     }
 }
 
-/// Start month and figures, or the number of the line that is refused, 0 for too few figures.
-type Parsed = Result<(u8, Vec<i32>), usize>;
+/// Start month, first year (0 beside a list for a plain file) and figures, or the number of the line that is refused, 0 for too few figures.
+type Parsed = Result<(u8, u16, Vec<i32>), usize>;
 
 fn blank(byte: &u8) -> bool {
     matches!(byte, b' ' | b'\t')
@@ -432,17 +566,18 @@ fn parse_row(line: &[u8]) -> Option<(usize, i32)> {
     Some((12 * value(year) + value(month) - 1, parse_figure(word)?))
 }
 
-fn parse_list(start: u8, input: &[u8]) -> Parsed {
+fn parse_list(start: u8, year: u16, input: &[u8]) -> Parsed {
+    let to_the_latest = 12 * (LATEST_YEAR + 1 - usize::from(year)) - (usize::from(start) - 1);
     let mut figures = Vec::new();
     for (number, line) in lines_of(input) {
         for word in line.split(blank).filter(|word| !word.is_empty()) {
-            figures.push(parse_figure(word).filter(|_| figures.len() < MOST_MONTHS).ok_or(number)?);
+            figures.push(parse_figure(word).filter(|_| figures.len() < MOST_MONTHS.min(to_the_latest)).ok_or(number)?);
         }
     }
-    if figures.len() < FEWEST_MONTHS { Err(0) } else { Ok((start, figures)) }
+    if figures.len() < FEWEST_MONTHS { Err(0) } else { Ok((start, year, figures)) }
 }
 
-fn parse_table(input: &[u8]) -> Parsed {
+fn parse_table(earliest: usize, input: &[u8]) -> Parsed {
     let mut rows = lines_of(input);
     if rows.first().is_some_and(|(_, line)| !line.iter().any(u8::is_ascii_digit)) {
         rows.remove(0);
@@ -450,12 +585,24 @@ fn parse_table(input: &[u8]) -> Parsed {
     let (mut first, mut figures) = (None, Vec::new());
     for (number, line) in rows {
         let (month, figure) = parse_row(line).ok_or(number)?;
-        if month != *first.get_or_insert(month) + figures.len() || figures.len() == MOST_MONTHS {
+        if month / 12 < earliest || month != *first.get_or_insert(month) + figures.len() || figures.len() == MOST_MONTHS {
             return Err(number);
         }
         figures.push(figure);
     }
-    if figures.len() < FEWEST_MONTHS { Err(0) } else { Ok(((first.unwrap_or(0) % 12) as u8 + 1, figures)) }
+    let first = first.unwrap_or(0);
+    if figures.len() < FEWEST_MONTHS { Err(0) } else { Ok(((first % 12) as u8 + 1, (first / 12) as u16, figures)) }
+}
+
+/// The input as make-desk must take it, with these arguments.
+fn parsed(arguments: &[&str], input: &[u8]) -> Parsed {
+    let number = |word: &str| word.parse::<u16>().expect("a number");
+    match arguments {
+        [] => parse_table(0, input),
+        ["-c"] => parse_table(1, input),
+        ["-c", year, start] => parse_list(number(start) as u8, number(year), input),
+        _ => parse_list(number(arguments[0]) as u8, 0, input),
+    }
 }
 
 /// The input with one byte changed, put in or left out, in one round of three among the first forty.
@@ -475,13 +622,11 @@ fn damaged(dice: &mut Dice, input: &[u8]) -> Vec<u8> {
 
 /// Makes a desk file beside the parser: the same file, or the same line refused. True where a file was made.
 fn made_as_parsed(arguments: &[&str], input: &[u8]) -> bool {
-    let parsed = match arguments {
-        [start] => parse_list(start.parse().expect("a month"), input),
-        _ => parse_table(input),
-    };
+    let parsed = parsed(arguments, input);
     let made = parsed.is_ok();
     match parsed {
-        Ok((start, figures)) => assert_made(arguments, input, &figures, start),
+        Ok((start, year, figures)) if arguments.first() == Some(&"-c") => assert_file(arguments, input, &columns(&figures, start, year)),
+        Ok((start, _, figures)) => assert_file(arguments, input, &desk(&figures, start)),
         Err(line) => {
             let output = make_desk(arguments, input);
             let error = text(&output.stderr);
@@ -505,21 +650,29 @@ fn try_damaged(seed: u64, rounds: usize, arguments: &[&str], input: impl Fn(&mut
     assert!(rounds / 8 < made && made < rounds - rounds / 8, "{made} of {rounds}");
 }
 
+/// A table of one of many kinds; some begin in the year 0, and some go on to 10000.
+fn some_table(dice: &mut Dice) -> Vec<u8> {
+    let mut pick = |many: usize| dice.between(0, many as i64 - 1) as usize;
+    let heading = ["", "date,figure\n", "\r\nmonth;index\r\n", "\u{feff}month\tindex\n"][pick(4)];
+    let year = [0, 1, YEAR, 9993][pick(4)];
+    let form = Form { year, dates: pick(4), separator: SEPARATORS[pick(10)], heading, line_end: ["\n", "\r\n"][pick(2)] };
+    table(&some_figures(72 + pick(5)), 1 + pick(12) as u8, form)
+}
+
 #[test]
 fn damaged_tables() {
-    try_damaged(1, 400, &[], |dice| {
-        let mut pick = |many: usize| dice.between(0, many as i64 - 1) as usize;
-        let heading = ["", "date,figure\n", "\r\nmonth;index\r\n", "\u{feff}month\tindex\n"][pick(4)];
-        let form = Form { dates: pick(4), separator: SEPARATORS[pick(10)], heading, line_end: ["\n", "\r\n"][pick(2)] };
-        table(&some_figures(72 + pick(5)), 1 + pick(12) as u8, form)
-    });
+    try_damaged(1, 400, &[], some_table);
+    try_damaged(4, 400, &["-c"], some_table);
 }
 
 #[test]
 fn damaged_lists() {
-    try_damaged(2, 200, &["5"], |dice| {
+    let short = |dice: &mut Dice| {
         let between = ["\n", "\r\n", " ", "\t", " \n"][dice.between(0, 4) as usize];
         list(&some_figures(dice.between(72, 76) as usize), between)
-    });
+    };
+    try_damaged(2, 200, &["5"], short);
     try_damaged(3, 50, &["5"], |dice| list(&some_figures(dice.between(599, 600) as usize), " "));
+    try_damaged(5, 100, &["-c", "2021", "5"], short);
+    try_damaged(6, 200, &["-c", "9993", "12"], short); // the 74th figure is of January 10000
 }

@@ -1,26 +1,18 @@
 -- METHOD 7.4: the theorems on reading and writing together, whole (shown in proofs/RoundTrip.antt). They speak of what `read` and `write` promise,
 -- `ReadDone` and `WriteDone`; every lent slice of bytes is a byte string, `AreBytes` (the contract of little_endian::are_bytes).
-use Prim.Native.Nat.{ℕ, _^_, _≤_, _<_}
+use Prim.Native.Nat.{ℕ, _≤_}
 use mathlib.Core.Path.{_≡_}
 use mathlib.Core.List.{List, _++_}
 use lib.IntN.{ℤ}
-use lib.ListN.{length, getD, take, drop}
-use Rattle.integers.specs.Lists.{_‼_}
+use lib.ListN.{length, take, drop}
 use Rattle.refusals.specs.Sheet.{success}
-use Rattle.little_endian.specs.Bytes.{AreBytes, FourBytes}
+use Rattle.little_endian.specs.Bytes.{AreBytes}
 use Rattle.desk_file.specs.declared.Reading.{Reading}
 use Rattle.desk_file.specs.declared.Writing.{Writing}
-use Rattle.desk_file.specs.File.{SeriesWithWeights, series, fileBytes, seriesIn}
+use Rattle.desk_forms.specs.Header.{SeriesWithWeights, series, Storable}
+use Rattle.desk_forms.specs.File.{fileBytes, seriesIn}
 use Rattle.desk_file.specs.ReadFile.{Accepted, accepted, readSays, readAnswer, ReadDone}
 use Rattle.desk_file.specs.WriteFile.{writeSays, WriteDone}
-
--- what the fields of a file can hold: a count of 2 bytes, a start month of 1, signed figures of 4, weights of 2; as many weights as figures
-pub record Storable (s : SeriesWithWeights) : Type 0 where
-  pub count : length (s .figures) < 2 ^ 16
-  pub start : s .start < 2 ^ 8
-  pub same : length (s .weights) ≡ length (s .figures)
-  pub figuresFit : (t : ℕ) → t < length (s .figures) → FourBytes (s .figures ‼ t)
-  pub weightsFit : (t : ℕ) → t < length (s .weights) → getD (s .weights) t 0 < 2 ^ 16
 
 -- reading gave this series: its length and start month, its figures and weights in the first places of the slices, the rest as before
 pub record ReadAgain (s : SeriesWithWeights) (figures₀ : List ℤ) (weights₀ : List ℕ) (r : Reading) (figures : List ℤ) (weights : List ℕ) : Type 0 where

@@ -1,26 +1,11 @@
-// METHOD 7, the desk file: reading and writing a series with its weights.
+// METHOD 7.2 and 7.3, the plain desk file: reading and writing a series with its weights.
+use desk_checks::Checked;
+use desk_forms::Form;
 use refusals::Refusal;
-
-mod arrays;
-mod reader;
-mod writer;
-
-pub use reader::read;
-pub use writer::write;
-
-// Bytes of the header, of the count in it, of a figure, of a weight, and of a month in both arrays.
-const HEADER: usize = 4;
-
-const COUNT: usize = 2;
-
-const FIGURE: usize = 4;
-
-const WEIGHT: usize = 2;
-
-const MONTH: usize = 6;
-
-// The period of a desk file.
-const PERIOD: u8 = refusals::MONTHS_OF_YEAR as u8;
+use refusals::Verdict;
+ghost use Rattle.desk_forms.specs.Header.{series};
+ghost use Rattle.desk_file.specs.ReadFile.{ReadDone};
+ghost use Rattle.desk_file.specs.WriteFile.{WriteDone};
 
 // What reading answers: the months and the start month of the series, or why it is refused.
 pub enum Reading {
@@ -32,4 +17,31 @@ pub enum Reading {
 pub enum Writing {
     Length(usize),
     Refused(Refusal),
+}
+
+// This form has no year: it is as if its series started in the earliest one, from which no series is too long.
+const ANY_YEAR: u16 = refusals::EARLIEST_YEAR as u16;
+
+// Reads a desk file: the first n places of both slices are filled, the rest stays.
+pub fn read(file: &[u8], figures: &mut [i32], weights: &mut [u16]) -> Reading
+    ensures { λ r. ⌜ ReadDone (now (file .entry)) (now (figures .entry)) (now (weights .entry)) r (now (figures .exit)) (now (weights .exit)) ⌝ }
+{
+    match desk_either::read(file, Form::Plain, ANY_YEAR, figures, weights) {
+        Checked::Refused(refusal) => Reading::Refused(refusal),
+        Checked::Fits {
+            count,
+            start,
+            year: _,
+        } => Reading::Series { count, start },
+    }
+}
+
+// Writes a desk file: the first 4+6n bytes of the output are filled, the rest stays.
+pub fn write(figures: &[i32], start: u8, weights: &[u16], out: &mut [u8]) -> Writing
+    ensures { λ r. ⌜ WriteDone (series start (now (figures .entry)) (now (weights .entry))) (now (out .entry)) r (now (out .exit)) ⌝ }
+{
+    match desk_either::write(figures, start, ANY_YEAR, weights, Form::Plain, out) {
+        Verdict::Refused(refusal) => Writing::Refused(refusal),
+        Verdict::Fine => Writing::Length(desk_forms::file_length(Form::Plain, figures.len())),
+    }
 }

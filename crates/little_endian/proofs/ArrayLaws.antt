@@ -20,6 +20,15 @@ length-array width code (x ∷ xs) =
     length-append (bytesOf width (code x)) (array width code xs)
     ∙ omega (arith, length-bytes width (code x), length-array width code xs, mul-suc width (length xs))
 
+-- two lists of values that are stood for by the same numbers; d and e are what `getD` gives past the ends
+pub array-same : {A B : Type 0} (d : A) (e : B) (width : ℕ) (code : A → ℕ) (other : B → ℕ) (xs : List A) (ys : List B) → length xs ≡ length ys
+    → ((i : ℕ) → i < length xs → code (getD xs i d) ≡ other (getD ys i e)) → array width code xs ≡ array width other ys
+unfolding array
+array-same d e width code other [] [] l h = refl
+array-same d e width code other [] (y ∷ ys) l h = absurd (omega arith)
+array-same d e width code other (x ∷ xs) [] l h = absurd (omega arith)
+array-same d e width code other (x ∷ xs) (y ∷ ys) l h = rw (h 0 (omega arith), array-same d e width code other xs ys (omega arith) (λ i k. h (suc i) (omega arith)))
+
 -- d is what `getD` gives past the end
 module _ {A : Type 0} (d : A) (width : ℕ) (code : A → ℕ) where
   -- one value stored, and what is left to store; none is left

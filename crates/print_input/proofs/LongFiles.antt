@@ -13,7 +13,8 @@ use Rattle.refusals.specs.Limits.{leastMonths, mostMonths, monthsOfYear}
 use Rattle.refusals.specs.Inside.{startInside}
 use Rattle.refusals.specs.Sheet.{Answer, refusal}
 use Rattle.little_endian.specs.Bytes.{numberAt}
-use Rattle.desk_file.specs.File.{headerLength, fileLength, countIn, startIn, periodIn}
+use Rattle.desk_forms.specs.Header.{countIn, startIn, periodIn}
+use Rattle.desk_forms.specs.File.{headerLength, fileLength}
 use Rattle.desk_file.specs.ReadFile.{Accepted, readAnswer}
 use Rattle.print_tables.specs.Printed.{readText, printed, PrintDone}
 use Rattle.print_input.specs.Contracts.{InputPrinted}

@@ -3,7 +3,7 @@ ghost use mathlib.Core.Path.{_≡_};
 ghost use Prim.Native.Nat.{_+_, _≤_};
 ghost use lib.ListN.{length};
 ghost use Rattle.refusals.specs.Limits.{mostMonths};
-ghost use Rattle.desk_file.specs.File.{fileLength};
+ghost use Rattle.desk_forms.specs.File.{fileLength};
 ghost use Rattle.print_input.specs.Contracts.{InputPrinted, Within};
 use libc::STDIN_FILENO;
 use libc::STDOUT_FILENO;

@@ -12,10 +12,10 @@ use Rattle.refusals.specs.Limits.{mostMonths}
 use Rattle.refusals.specs.Sheet.{Answer, success, row}
 use Rattle.desk_file.specs.declared.Reading.{Reading}
 use Rattle.desk_file.specs.declared.Reading.the-variants.{Series, Refused as NotRead}
-use Rattle.desk_file.specs.File.{seriesIn}
+use Rattle.desk_forms.specs.File.{seriesIn}
 use Rattle.desk_file.specs.ReadFile.{Accepted, accepted, readSays, readAnswer, ReadDone}
-use Rattle.desk_file.proofs.FileLaws.{series-months}
-use Rattle.desk_file.proofs.ReadAnswers.{accepted-file}
+use Rattle.desk_forms.proofs.FormLaws.{meaning-months}
+use Rattle.desk_file.proofs.Answers.{read-sized}
 use Rattle.decompose.specs.declared.Decomposed.{Decomposed}
 use Rattle.decompose.specs.declared.Decomposed.the-variants.{Tables, Refused}
 use Rattle.decompose.specs.Promise.{Slices, Promise, answer, after, says, lengthsOf}
@@ -78,15 +78,15 @@ module _ {file : List ℕ} {figures₀ figures : List ℤ} {weights₀ weights :
     told = sym (p .answer) ∙ ap readSays e
 
     pub months-fit : n ≤ mostMonths
-    months-fit = accepted-file file (length figures₀) (length weights₀) n start told .most
+    months-fit = read-sized file (length figures₀) (length weights₀) told .most
 
     long : length (seriesIn file .figures) ≡ n
-    long = series-months file n (sym (accepted-file file (length figures₀) (length weights₀) n start told .count)) .0
+    long = meaning-months (read-sized file (length figures₀) (length weights₀) told) .0
 
     figures-read : take n figures ≡ seriesIn file .figures
     figures-read =
-        let left : figures ≡ seriesIn file .figures ++ drop n figures₀ = rw told at (p .figuresLeft) in
-        ap (take n) left ∙ take-at (seriesIn file .figures) (drop n figures₀) n long
+        let left : figures ≡ seriesIn file .figures ++ drop (length (seriesIn file .figures)) figures₀ = rw told at (p .figuresLeft) in
+        ap (take n) left ∙ take-at (seriesIn file .figures) _ n long
 
     pub months-read : length (take n figures) ≡ n
     months-read = ap length figures-read ∙ long

@@ -6,7 +6,7 @@ use lib.IntN.{ℤ}
 use lib.ListN.{length, drop}
 use Rattle.refusals.specs.Limits.{mostMonths}
 use Rattle.refusals.specs.Sheet.{Answer, success, refusal}
-use Rattle.desk_file.specs.File.{seriesIn}
+use Rattle.desk_forms.specs.File.{seriesIn}
 use Rattle.desk_file.specs.ReadFile.{Accepted, readAnswer}
 use Rattle.checks.specs.declared.Lengths.{Lengths}
 use Rattle.tables.specs.Tables.{C17, D10, D11, D12, D13}

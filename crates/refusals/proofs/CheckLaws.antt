@@ -69,6 +69,18 @@ stopped-more {q} {ks} more s = record {
   here = check-more ks more (s .at) (refusing (row q .number) (row q .place)) (s .here);
 }
 
+-- the first of those that do not apply; a refusal behind them
+pub before-fewer : (ks : List Check) (i j : ℕ) → i ≤ j → Before j ks → Before i ks
+before-fewer ks zero j l h = tt
+before-fewer ks (suc i) zero l h = absurd (omega arith)
+before-fewer [] (suc i) (suc j) l h = absurd h
+before-fewer (k ∷ ks) (suc i) (suc j) l h = (h .0, before-fewer ks i j (omega arith) (h .1))
+
+pub stopped-on : {q : Refusal} (ks : List Check) (i : ℕ) → Before i ks → Stopped q (drop i ks) → Stopped q ks
+stopped-on ks zero h s = s
+stopped-on [] (suc i) h s = absurd h
+stopped-on (k ∷ ks) (suc i) h s = stopped-after (h .0) (stopped-on ks i (h .1) s)
+
 module _ {A : Type 0} where
   pub stop-at : (ks : List Check) (otherwise : Answer A) (i number place : ℕ) → Before i ks → CheckAt i (refusing number place) ks
       → refusal number place ≡ firstToApply ks otherwise
@@ -101,6 +113,17 @@ module _ {A : Type 0} where
       let h = past (k .applies) (k .number) (k .place) (firstToApply ks otherwise) a e in
       let t = all-before ks otherwise a (h .1) in
       ((h .0, t .0), t .1)
+
+  -- a check that does not apply where those before it do not can be left out
+  pub skipped : (ks : List Check) (k : Check) (more : List Check) (otherwise : Answer A) → (Before (length ks) ks → k .applies ≡ false)
+      → firstToApply (ks ++ (k ∷ more)) otherwise ≡ firstToApply (ks ++ more) otherwise
+  skipped [] k more otherwise h = rw (h tt)
+  skipped (c ∷ ks) k more otherwise h = by (λ e. skipped ks k more otherwise (λ l. h (e, l))) (c .applies) refl
+    where
+      by : (c .applies ≡ false → firstToApply (ks ++ (k ∷ more)) otherwise ≡ firstToApply (ks ++ more) otherwise) → (b : Bool) → c .applies ≡ b
+          → cond (c .applies) (refusal (c .number) (c .place)) (firstToApply (ks ++ (k ∷ more)) otherwise) ≡ cond (c .applies) (refusal (c .number) (c .place)) (firstToApply (ks ++ more) otherwise)
+      by next true e = rw e
+      by next false e = rw e (next e)
 
 -- ---- rows 1 to 3
 span-at : (n start i number place : ℕ) → CheckAt i (refusing number place) (spanChecks n start) → number ≤ 3

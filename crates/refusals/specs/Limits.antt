@@ -1,4 +1,4 @@
--- METHOD 1.1, 1.2 and 1.5: the unit and the limits, each under one name.
+-- METHOD 1.1, 1.2, 1.5 and 7.5: the unit and the limits, each under one name.
 use Prim.Native.Nat.{ℕ}
 
 -- METHOD 1.2: the grains of a unit
@@ -23,3 +23,10 @@ largestFigure = 200_000
 -- METHOD 1.5: the weight of a month whose irregular stays whole, in thousandths
 abbrev pub fullWeight : ℕ
 fullWeight = 1000
+
+-- METHOD 7.5: the years of a series are 1 to 9999
+abbrev pub earliestYear : ℕ
+earliestYear = 1
+
+abbrev pub latestYear : ℕ
+latestYear = 9999

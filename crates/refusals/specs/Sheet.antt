@@ -2,7 +2,7 @@
 -- what the program answers is turned into that by `refusalOf`.
 use Prim.Native.Nat.{ℕ}
 use Rattle.refusals.specs.declared.Refusal.{Refusal}
-use Rattle.refusals.specs.declared.Refusal.the-variants.{TooShort, TooLong, BadStart, WrongLength, FigureOutside, EmptyGroup, NoHeader, BadPeriod, BadFileLength, WeightAbove}
+use Rattle.refusals.specs.declared.Refusal.the-variants.{TooShort, TooLong, BadStart, WrongLength, FigureOutside, EmptyGroup, NoHeader, BadPeriod, BadFileLength, WeightAbove, BadYears}
 
 pub record Row : Type 0 where
   pub number : ℕ
@@ -22,12 +22,14 @@ row WrongLength = numbered 4 0
 row (FigureOutside t) = numbered 5 t
 -- dropping would empty a group (never: METHOD 5.8)
 row EmptyGroup = numbered 6 0
--- a file has fewer than 4 bytes; its period is not 12; it is not 4 + 6n bytes long
+-- a file has fewer bytes than its form's header, 4 or 6; its period is not 12; it is not as many bytes longer as 6n
 row NoHeader = numbered 7 0
 row BadPeriod = numbered 8 0
 row BadFileLength = numbered 9 0
 -- a weight is above 1,000, the first of them at t
 row (WeightAbove t) = numbered 10 t
+-- the first year or the year of the last month is not 1 to 9999
+row BadYears = numbered 11 0
 
 -- an answer as METHOD 8 has it: a success with its values, or a refusal's number and place
 pub data Answer (A : Type 0) : Type 0 where

@@ -1,9 +1,11 @@
 // METHOD 8.1, the refusal sheet, and the limits that it speaks of (METHOD 1).
 ghost use mathlib.Core.Bool.{not};
 ghost use mathlib.Core.Path.{_≡_};
+ghost use Prim.Native.Nat.{_≤_};
 ghost use Rattle.refusals.specs.First.{firstAbove, firstOutside};
-ghost use Rattle.refusals.specs.Inside.{figureInside, startInside, weightInside};
+ghost use Rattle.refusals.specs.Inside.{figureInside, startInside, weightInside, yearsInside};
 ghost use Rattle.refusals.specs.Sheet.{row};
+ghost use Rattle.refusals.specs.Limits.{mostMonths};
 ghost use Rattle.refusals.specs.Contracts.{Spans};
 
 // Grains in a unit.
@@ -23,6 +25,11 @@ pub const LARGEST_FIGURE: i32 = 200000;
 // A month that counts in full, in thousandths.
 pub const FULL_WEIGHT: u16 = 1000;
 
+// The years of a series.
+pub const EARLIEST_YEAR: usize = 1;
+
+pub const LATEST_YEAR: usize = 9999;
+
 // The rows of the sheet, in its order; a row with a place carries it.
 pub enum Refusal {
     TooShort,
@@ -35,6 +42,7 @@ pub enum Refusal {
     BadPeriod,
     BadFileLength,
     WeightAbove(usize),
+    BadYears,
 }
 
 // The refusal's number on the sheet.
@@ -52,6 +60,7 @@ pub fn number(r: Refusal) -> u8
         Refusal::BadPeriod => 8,
         Refusal::BadFileLength => 9,
         Refusal::WeightAbove(_) => 10,
+        Refusal::BadYears => 11,
     }
 }
 
@@ -70,6 +79,7 @@ pub fn place(r: Refusal) -> usize
         Refusal::BadPeriod => 0,
         Refusal::BadFileLength => 0,
         Refusal::WeightAbove(t) => t,
+        Refusal::BadYears => 0,
     }
 }
 
@@ -103,6 +113,17 @@ pub fn span(n: usize, start: u8) -> Verdict
         return Verdict::Refused(Refusal::BadStart);
     }
     Verdict::Fine
+}
+
+// Row 11: the first year, or the year of the last of n months, outside 1 to 9999.
+pub fn years_outside(year: u16, start: u8, n: usize) -> bool
+    requires { ⌜ (1 ≤ start) × (1 ≤ n) × (n ≤ mostMonths) ⌝ }
+    ensures { λ r. ⌜ r ≡ not (yearsInside year start n) ⌝ }
+{
+    if (year as usize) < EARLIEST_YEAR {
+        return true;
+    }
+    LATEST_YEAR < year as usize + (start as usize - 1 + n - 1) / MONTHS_OF_YEAR
 }
 
 // Row 5: a figure below -200,000 or above 200,000.

@@ -1,9 +1,15 @@
-// METHOD 8.5: decomposing, reading and writing for callers in other languages: an answer is a number, 0 for success, else the refusal's number.
-ghost use Rattle.desk_file.specs.File.{series};
-ghost use Rattle.vepsjalm.specs.Numbers.{DecomposeNumbers, ReadNumbers, WriteNumbers};
+// METHOD 8.5: decomposing, and reading, writing and moving desk files, for callers in other languages: an answer is a number, 0 for success, else the
+// refusal's number.
+ghost use lib.ListN.{length};
+ghost use Rattle.desk_forms.specs.Header.{series};
+ghost use Rattle.desk_forms.specs.File.{fileBytes, seriesIn};
+ghost use Rattle.desk_forms.specs.ColumnsFile.{columnsBytes};
+ghost use Rattle.desk_file.specs.WriteFile.{writeAnswer};
+ghost use Rattle.desk_columns.specs.WriteColumns.{writeColumnsAnswer};
+ghost use Rattle.desk_columns.specs.Moving.{forwardAnswer};
+ghost use Rattle.desk_numbers.specs.DeskNumbers.{BackNumbers, ReadColumnsNumbers, ReadNumbers, WrittenNumbers};
+ghost use Rattle.vepsjalm.specs.Numbers.{DecomposeNumbers};
 use decompose::Decomposed;
-use desk_file::Reading;
-use desk_file::Writing;
 
 #[no_mangle]
 pub extern "C" fn vepsjalm_decompose(
@@ -32,6 +38,7 @@ pub extern "C" fn vepsjalm_decompose(
     refusals::number(refusal)
 }
 
+// Reading, writing and moving, as `desk_numbers` answers them.
 #[no_mangle]
 pub extern "C" fn vepsjalm_read(
     file: &[u8],
@@ -43,23 +50,7 @@ pub extern "C" fn vepsjalm_read(
 ) -> u8
     ensures { λ r. ⌜ ReadNumbers (now (file .entry)) (now (figures .entry)) (now (weights .entry)) r (now (count .exit)) (now (start .exit)) (now (place .exit)) (now (figures .exit)) (now (weights .exit)) ⌝ }
 {
-    match desk_file::read(file, figures, weights) {
-        Reading::Series {
-            count: n,
-            start: first,
-        } => {
-            *count = n;
-            *start = first;
-            *place = 0;
-            0
-        }
-        Reading::Refused(refusal) => {
-            *count = 0;
-            *start = 0;
-            *place = refusals::place(refusal);
-            refusals::number(refusal)
-        }
-    }
+    desk_numbers::read(file, figures, weights, count, start, place)
 }
 
 #[no_mangle]
@@ -71,18 +62,66 @@ pub extern "C" fn vepsjalm_write(
     size: &mut usize,
     place: &mut usize,
 ) -> u8
-    ensures { λ r. ⌜ WriteNumbers (series start (now (figures .entry)) (now (weights .entry))) (now (out .entry)) r (now (size .exit)) (now (place .exit)) (now (out .exit)) ⌝ }
+    ensures { λ r. ⌜ WrittenNumbers (writeAnswer (series start (now (figures .entry)) (now (weights .entry))) (length (now (out .entry))))
+        (fileBytes (series start (now (figures .entry)) (now (weights .entry)))) (now (out .entry)) r (now (size .exit)) (now (place .exit)) (now (out .exit)) ⌝ }
 {
-    match desk_file::write(figures, start, weights, out) {
-        Writing::Length(n) => {
-            *size = n;
-            *place = 0;
-            0
-        }
-        Writing::Refused(refusal) => {
-            *size = 0;
-            *place = refusals::place(refusal);
-            refusals::number(refusal)
-        }
-    }
+    desk_numbers::write(figures, start, weights, out, size, place)
+}
+
+#[no_mangle]
+pub extern "C" fn vepsjalm_read_columns(
+    file: &[u8],
+    figures: &mut [i32],
+    weights: &mut [u16],
+    count: &mut usize,
+    start: &mut u8,
+    year: &mut u16,
+    place: &mut usize,
+) -> u8
+    ensures { λ r. ⌜ ReadColumnsNumbers (now (file .entry)) (now (figures .entry)) (now (weights .entry)) r (now (count .exit)) (now (start .exit)) (now (year .exit)) (now (place .exit)) (now (figures .exit)) (now (weights .exit)) ⌝ }
+{
+    desk_numbers::read_columns(file, figures, weights, count, start, year, place)
+}
+
+#[no_mangle]
+pub extern "C" fn vepsjalm_write_columns(
+    figures: &[i32],
+    start: u8,
+    year: u16,
+    weights: &[u16],
+    out: &mut [u8],
+    size: &mut usize,
+    place: &mut usize,
+) -> u8
+    ensures { λ r. ⌜ WrittenNumbers (writeColumnsAnswer year (series start (now (figures .entry)) (now (weights .entry))) (length (now (out .entry))))
+        (columnsBytes year (series start (now (figures .entry)) (now (weights .entry)))) (now (out .entry)) r (now (size .exit)) (now (place .exit)) (now (out .exit)) ⌝ }
+{
+    desk_numbers::write_columns(figures, start, year, weights, out, size, place)
+}
+
+#[no_mangle]
+pub extern "C" fn vepsjalm_to_columns(
+    file: &[u8],
+    year: u16,
+    out: &mut [u8],
+    size: &mut usize,
+    place: &mut usize,
+) -> u8
+    ensures { λ r. ⌜ WrittenNumbers (forwardAnswer (now (file .entry)) year (length (now (out .entry))))
+        (columnsBytes year (seriesIn (now (file .entry)))) (now (out .entry)) r (now (size .exit)) (now (place .exit)) (now (out .exit)) ⌝ }
+{
+    desk_numbers::to_columns(file, year, out, size, place)
+}
+
+#[no_mangle]
+pub extern "C" fn vepsjalm_from_columns(
+    file: &[u8],
+    out: &mut [u8],
+    size: &mut usize,
+    year: &mut u16,
+    place: &mut usize,
+) -> u8
+    ensures { λ r. ⌜ BackNumbers (now (file .entry)) (now (out .entry)) r (now (size .exit)) (now (year .exit)) (now (place .exit)) (now (out .exit)) ⌝ }
+{
+    desk_numbers::from_columns(file, out, size, year, place)
 }

@@ -1,0 +1,30 @@
+-- METHOD 7.9: month order loses nothing, for every number of months in a year, start month and count. Shown in proofs/Rearranging.antt.
+use Prim.Native.Nat.{ℕ, _<_}
+use mathlib.Core.Path.{_≡_}
+use mathlib.Core.List.{List}
+use lib.ListN.{length, getD}
+use Rattle.chart.specs.Chart.{Starts, place, toColumns, fromColumns}
+
+-- a month that stands at place i
+pub record StandsAt (p s n i : ℕ) : Type 0 where
+  pub month : ℕ
+  pub below : month < n
+  pub there : place p s n month ≡ i
+
+-- the n places are those of the n months: each month has one of them, no two have the same, and none is left over
+pub record OneForEach (p s n : ℕ) : Type 0 where
+  pub inside : (t : ℕ) → t < n → place p s n t < n
+  pub apart : (t u : ℕ) → t < n → u < n → place p s n t ≡ place p s n u → t ≡ u
+  pub every : (i : ℕ) → i < n → StandsAt p s n i
+
+abbrev pub Places : Type 0
+Places = (p s n : ℕ) → Starts p s → OneForEach p s n
+
+-- values of any kind: in month order the value of month t stands at its place; there and back, and back and there, they are as they were
+pub record Kept {A : Type 0} (d : A) (p s : ℕ) (xs : List A) : Type 0 where
+  pub atPlace : (t : ℕ) → t < length xs → getD (toColumns d p s xs) (place p s (length xs) t) d ≡ getD xs t d
+  pub back : fromColumns d p s (toColumns d p s xs) ≡ xs
+  pub again : toColumns d p s (fromColumns d p s xs) ≡ xs
+
+abbrev pub NothingLost : Type 1
+NothingLost = (A : Type 0) (d : A) (p s : ℕ) (xs : List A) → Starts p s → Kept d p s xs

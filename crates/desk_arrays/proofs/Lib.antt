@@ -1,0 +1,2 @@
+-- Laws of the arrays of a desk file.
+pub mod ArrayLaws

@@ -1,0 +1,3 @@
+-- Laws of the checks of both forms of a desk file.
+pub mod CheckedLaws
+pub mod Again

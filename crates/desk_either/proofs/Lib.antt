@@ -1,0 +1,2 @@
+-- What the checks found, for reading, writing and moving.
+pub mod Found

@@ -1,0 +1,2 @@
+-- Reading, writing and moving in either form (Either).
+pub mod Either
