@@ -10,24 +10,24 @@ use Rattle.integers.specs.Lists.{tab}
 use Rattle.integers.specs.Sums.{sumN}
 use Rattle.integers.proofs.SumLaws.{sumN-more}
 use Rattle.integers.proofs.FillingLaws.{length-tab, at-tab, tab-same}
-use Rattle.chart.specs.Chart.{Starts, columnOf, firstIn, inColumn, place, toColumns, fromColumns}
+use Rattle.chart.specs.Chart.{Starts, columnOf, firstIn, inColumn, place, monthOrder, orderOfT}
 use Rattle.chart.proofs.Places.{mod-of, div-of, first-below, column-below, place-below, place-cell, outside, month-cell, in-its-column, all-columns}
-use Rattle.chart.proofs.Rearranging.{length-fromColumns, at-fromColumns, at-place, columns-again}
+use Rattle.chart.proofs.Rearranging.{length-orderOfT, at-orderOfT, at-place, columns-again}
 use Rattle.chart.specs.Contracts.{Follows}
 
 -- ---- what loops need
 -- a list made place by place, back in the order of months
 module _ {A : Type 0} (d : A) (p s : ℕ) (v : Starts p s) (n : ℕ) (f : ℕ → A) where
-  pub length-fromColumns-tab : length (fromColumns d p s (tab n f)) ≡ n
-  length-fromColumns-tab = length-fromColumns d p s v (tab n f) ∙ length-tab n f
+  pub length-orderOfT-tab : length (orderOfT d p s (tab n f)) ≡ n
+  length-orderOfT-tab = length-orderOfT d p s v (tab n f) ∙ length-tab n f
 
-  pub at-fromColumns-tab : (t : ℕ) → t < n → getD (fromColumns d p s (tab n f)) t d ≡ f (place p s n t)
-  at-fromColumns-tab t h =
-      (rw (length-tab n f) at (at-fromColumns d p s v (tab n f) t (rw (length-tab n f) h)))
+  pub at-orderOfT-tab : (t : ℕ) → t < n → getD (orderOfT d p s (tab n f)) t d ≡ f (place p s n t)
+  at-orderOfT-tab t h =
+      (rw (length-tab n f) at (at-orderOfT d p s v (tab n f) t (rw (length-tab n f) h)))
       ∙ at-tab d n f (place p s n t) (place-below p s v n t h)
 
-  pub fromColumns-tab : fromColumns d p s (tab n f) ≡ tab n (λ t. f (place p s n t))
-  fromColumns-tab = tab-same d n (λ t. f (place p s n t)) (fromColumns d p s (tab n f)) length-fromColumns-tab at-fromColumns-tab
+  pub orderOfT-tab : orderOfT d p s (tab n f) ≡ tab n (λ t. f (place p s n t))
+  orderOfT-tab = tab-same d n (λ t. f (place p s n t)) (orderOfT d p s (tab n f)) length-orderOfT-tab at-orderOfT-tab
 
 -- ---- month after month in month order
 module _ (p s : ℕ) (v : Starts p s) (n : ℕ) where
@@ -87,10 +87,10 @@ module _ {p s n : ℕ} where
   reached-next q l f = record { inside = f .inside; here = λ h. f .after (omega (arith, q .here l)) ∙ omega (arith, q .here l) }
 
   -- the value there
-  pub reached-value : {A : Type 0} {i t : ℕ} (d : A) (xs : List A) → Starts p s → length xs ≡ n → Reached p s n i t → i < n → getD (toColumns d p s xs) i d ≡ getD xs t d
+  pub reached-value : {A : Type 0} {i t : ℕ} (d : A) (xs : List A) → Starts p s → length xs ≡ n → Reached p s n i t → i < n → getD (monthOrder d p s xs) i d ≡ getD xs t d
   reached-value {A} {i} {t} d xs v e q l =
       let here : place p s (length xs) t ≡ i = ap (λ (k : ℕ). place p s k t) e ∙ q .here l in
-      ap (λ (k : ℕ). getD (toColumns d p s xs) k d) (sym here) ∙ at-place d p s v xs t (omega (arith, q .inside))
+      ap (λ (k : ℕ). getD (monthOrder d p s xs) k d) (sym here) ∙ at-place d p s v xs t (omega (arith, q .inside))
 
 -- one column: the order stays
 pub one-starts : Starts 1 1
@@ -100,9 +100,9 @@ place-same : (n t : ℕ) → place 1 1 n t ≡ t
 unfolding place columnOf sumN
 place-same n t = rw (mod-one (1 - 1 + t), div-one t) (omega arith)
 
-pub fromColumns-one : {A : Type 0} (d : A) (xs : List A) → fromColumns d 1 1 xs ≡ xs
-unfolding fromColumns
-fromColumns-one d xs = sym (tab-same d (length xs) _ xs refl (λ t h. rw (place-same (length xs) t)))
+pub orderOfT-one : {A : Type 0} (d : A) (xs : List A) → orderOfT d 1 1 xs ≡ xs
+unfolding orderOfT
+orderOfT-one d xs = sym (tab-same d (length xs) _ xs refl (λ t h. rw (place-same (length xs) t)))
 
-pub toColumns-one : {A : Type 0} (d : A) (xs : List A) → toColumns d 1 1 xs ≡ xs
-toColumns-one d xs = ap (toColumns d 1 1) (sym (fromColumns-one d xs)) ∙ columns-again d 1 1 one-starts xs
+pub monthOrder-one : {A : Type 0} (d : A) (xs : List A) → monthOrder d 1 1 xs ≡ xs
+monthOrder-one d xs = ap (monthOrder d 1 1) (sym (orderOfT-one d xs)) ∙ columns-again d 1 1 one-starts xs

@@ -1,7 +1,7 @@
 -- Laws of the wall chart's columns and of the places of months in month order, for every number p of months in a year.
 use Prim.Native.Nat.{ℕ, zero, suc, _+_, _-_, _*_, _/_, _%_, min, _<_, _≤_}
 use mathlib.Core.Path.{_≡_, refl, ap, _∙_}
-use native.Mathlib.Nat.{mod-lt, mod-eq-of-lt, div-eq-of-lt, div-add-mod', mul-add-mod-self-right, mul-add-div-right, mul-le-mul-right, not-suc-le-zero, add-zero, suc-mul, mul-comm}
+use native.Mathlib.Nat.{mod-lt, mod-eq-of-lt, div-eq-of-lt, div-add-mod', mul-add-mod-self-right, mul-add-div-right, mul-le-mul-left, mul-le-mul-right, not-suc-le-zero, add-zero, suc-mul, mul-comm}
 use native.Mathlib.Decide.{decLe}
 use native.Mathlib.Omega.{arith}
 use Rattle.integers.specs.Sums.{sumN}
@@ -175,6 +175,23 @@ module _ (p s : ℕ) (v : Starts p s) where
     pub place-below : (t : ℕ) → t < n → place p s n t < n
     unfolding place
     place-below t h = cell-below (columnOf p s t) (t / p) (column-below t) (in-its-column t h)
+
+    -- earlier columns first, and in a column the older months first
+    pub place-column : (t u : ℕ) → t < n → columnOf p s t < columnOf p s u → place p s n t < place p s n u
+    unfolding place
+    place-column t u h l =
+        let c = columnOf p s t in
+        omega (arith, in-its-column t h, sumN-more c (inColumn p s n), sumN-upto (c + 1) (columnOf p s u) (inColumn p s n) (omega arith))
+
+    pub place-age : (t u : ℕ) → columnOf p s t ≡ columnOf p s u → t < u → place p s n t < place p s n u
+    unfolding place
+    place-age t u e l = rw e (by (decLe (suc (t / p)) (u / p)))
+      where
+        by : Dec (suc (t / p) ≤ u / p) → sumN (columnOf p s u) (inColumn p s n) + t / p < sumN (columnOf p s u) (inColumn p s n) + u / p
+        by (yes k) = omega arith
+        by (no k) =
+            let above : u / p ≤ t / p = omega arith in
+            absurd (omega (arith, month-cell t, month-cell u, ap (firstIn p s) e, mul-le-mul-left p above))
 
     -- every place is a month's: the columns are searched for it
     search-column : (c : ℕ) → c ≤ p → (i : ℕ) → i < sumN c (inColumn p s n) → StandsAt p s n i

@@ -15,15 +15,16 @@ pub record Starts (p s : ℕ) : Type 0 where
 unfoldable pub columnOf : ℕ → ℕ → ℕ → ℕ
 columnOf p s t = (s - 1 + t) % p
 
--- METHOD 7.6: the first month of column c; the others follow p months after one another
+-- METHOD 7.6: the first month of column c; the others follow p months after one another (p is added so that nothing is taken from less)
 unfoldable pub firstIn : ℕ → ℕ → ℕ → ℕ
 firstIn p s c = (c + p - (s - 1)) % p
 
--- METHOD 7.6: how many of n months stand in column c
+-- METHOD 7.6: how many of n months stand in column c: n less its first month, divided by p and rounded up
 unfoldable pub inColumn : ℕ → ℕ → ℕ → ℕ → ℕ
 inColumn p s n c = (n + p - 1 - firstIn p s c) / p
 
--- METHOD 7.6: the place of month t, one of n: all months of the columns before its own, and those of its own before it, one for each year
+-- METHOD 7.6: the place of month t, one of n: all months of the columns before its own, and those of its own before it, one for each p months
+-- before t
 unfoldable pub place : ℕ → ℕ → ℕ → ℕ → ℕ
 place p s n t = sumN (columnOf p s t) (inColumn p s n) + t / p
 
@@ -36,10 +37,10 @@ unfoldable pub nextColumns : {A : Type 0} → A → ℕ → ℕ → List A → �
 nextColumns d p s xs c zero = []
 nextColumns d p s xs c (suc k) = column d p s xs c ++ nextColumns d p s xs (suc c) k
 
--- a series put into month order: all p columns, January's first
-unfoldable pub toColumns : {A : Type 0} → A → ℕ → ℕ → List A → List A
-toColumns d p s xs = nextColumns d p s xs 0 p
+-- METHOD 7.6: a series put into month order: all p columns, January's first
+unfoldable pub monthOrder : {A : Type 0} → A → ℕ → ℕ → List A → List A
+monthOrder d p s xs = nextColumns d p s xs 0 p
 
--- and back into order of t: the value of month t stands at its place
-unfoldable pub fromColumns : {A : Type 0} → A → ℕ → ℕ → List A → List A
-fromColumns d p s xs = tab (length xs) (λ t. getD xs (place p s (length xs) t) d)
+-- METHOD 7.6: values in month order put back into order of t: that of month t stands at its place
+unfoldable pub orderOfT : {A : Type 0} → A → ℕ → ℕ → List A → List A
+orderOfT d p s xs = tab (length xs) (λ t. getD xs (place p s (length xs) t) d)

@@ -2,13 +2,22 @@
 ghost use mathlib.Core.Path.{_≡_};
 ghost use Prim.Native.Nat.{_<_, _≤_, min};
 ghost use Rattle.integers.specs.Sums.{sumN};
-ghost use Rattle.chart.specs.Chart.{Starts, firstIn, inColumn, place};
+ghost use Rattle.chart.specs.Chart.{Starts, columnOf, firstIn, inColumn, place};
 ghost use Rattle.chart.specs.Contracts.{Charted, Follows};
 
-fn least(a: usize, b: usize) -> usize
+// The smaller of two.
+pub fn least(a: usize, b: usize) -> usize
     ensures { λ r. ⌜ r ≡ min a b ⌝ }
 {
     if a < b { a } else { b }
+}
+
+// The column of month t.
+fn column_of(p: usize, s: usize, t: usize) -> usize
+    requires { ⌜ Starts p s × (p ≤ 255) × (t ≤ 65535) ⌝ }
+    ensures { λ r. ⌜ (r ≡ columnOf p s t) × (r < p) ⌝ }
+{
+    (s - 1 + t) % p
 }
 
 // The first month of column c.
@@ -19,7 +28,8 @@ pub fn first_in(p: usize, s: usize, c: usize) -> usize
     (c + p - (s - 1)) % p
 }
 
-// How many of n months stand in the columns before column c.
+// How many of n months stand in the columns before column c: c in each whole row of the chart, in the last row as many of them as it has, and in the
+// first row none before the start month.
 fn before(p: usize, s: usize, n: usize, c: usize) -> usize
     requires { ⌜ Charted p s n × (c < p) ⌝ }
     ensures { λ r. ⌜ r ≡ sumN c (inColumn p s n) ⌝ }
@@ -33,10 +43,11 @@ pub fn place(p: usize, s: usize, n: usize, t: usize) -> usize
     requires { ⌜ Charted p s n × (t < n) ⌝ }
     ensures { λ r. ⌜ (r ≡ place p s n t) × (r < n) ⌝ }
 {
-    before(p, s, n, (s - 1 + t) % p) + t / p
+    before(p, s, n, column_of(p, s, t)) + t / p
 }
 
-// The month that stands after month t: the next of its column, or where it is the last one there, the first of the next column (after December's, of January's).
+// The month that stands after month t: the next of its column, or where it is the last one there, the first of the next column; after December's column
+// January's comes again.
 pub fn next(p: usize, s: usize, n: usize, t: usize) -> usize
     requires { ⌜ Charted p s n × (t < n) ⌝ }
     ensures { λ r. ⌜ Follows p s n t r ⌝ }
@@ -44,5 +55,5 @@ pub fn next(p: usize, s: usize, n: usize, t: usize) -> usize
     if t + p < n {
         return t + p;
     }
-    first_in(p, s, ((s - 1 + t) % p + 1) % p)
+    first_in(p, s, (column_of(p, s, t) + 1) % p)
 }

@@ -1,15 +1,18 @@
 // The two arrays of a desk file: n figures, and n weights. An array starts at byte `from`. It is in the month order of a series that starts in month
 // s of p in a year (METHOD 7.6); with p = s = 1 that is the order of t.
 use refusals::Found;
+ghost use mathlib.Core.Bool.{cond};
 ghost use mathlib.Core.List.{_++_};
 ghost use mathlib.Core.Path.{_≡_};
-ghost use Prim.Native.Nat.{_*_, _+_, _<_, _≤_};
+ghost use Prim.Native.Nat.{min, _*_, _+_, _≤_};
+ghost use lib.Dec.{ltb};
 ghost use lib.IntN.{pos};
 ghost use lib.ListN.{drop, length};
 ghost use lib.Seq.{sets};
+ghost use Rattle.refusals.specs.declared.Found.the-variants.{At, Nowhere};
 ghost use Rattle.refusals.specs.First.{firstAbove, firstOutside};
 ghost use Rattle.little_endian.specs.Bytes.{array};
-ghost use Rattle.chart.specs.Chart.{fromColumns, place, toColumns};
+ghost use Rattle.chart.specs.Chart.{monthOrder, orderOfT};
 ghost use Rattle.desk_arrays.specs.Arrays.{figuresAt, figuresBytes, storedFigure, storedWeight, weightsAt, weightsBytes};
 ghost use Rattle.desk_arrays.specs.Contracts.{Lies, numbersAt};
 
@@ -33,80 +36,90 @@ fn stored_weight(file: &[u8], from: usize, i: usize) -> u16
     little_endian::number_at(file, from + WEIGHT * i, WEIGHT) as u16
 }
 
-// The figure of month t; the weight likewise.
-fn figure_of(file: &[u8], from: usize, n: usize, p: usize, s: usize, t: usize) -> i32
-    requires { ⌜ Lies (now file) from 4 n p s × (t < n) ⌝ }
-    ensures { λ r. ⌜ r ≡ storedFigure (now (file .entry)) from (place p s n t) ⌝ }
+// The lower of t and the lowest bad month so far, where month t is bad too.
+fn lower(bad: bool, t: usize, lowest: usize) -> usize
+    ensures { λ r. ⌜ r ≡ cond bad (min t lowest) lowest ⌝ }
 {
-    stored_figure(file, from, chart::place(p, s, n, t))
+    if bad { chart::least(t, lowest) } else { lowest }
 }
 
-fn weight_of(file: &[u8], from: usize, n: usize, p: usize, s: usize, t: usize) -> u16
-    requires { ⌜ Lies (now file) from 2 n p s × (t < n) ⌝ }
-    ensures { λ r. ⌜ r ≡ storedWeight (now (file .entry)) from (place p s n t) ⌝ }
-{
-    stored_weight(file, from, chart::place(p, s, n, t))
-}
-
-// Rows 5 and 10, of the arrays in the file: nothing is filled before they are checked. The loops count the months that are left, so that the place is
-// the lowest bad t.
+// In the loops below i is a place in an array, and t the month that stands there.
+// Rows 5 and 10, of the arrays in the file: nothing is filled before they are checked. The place that is told is the lowest bad t, not the first in the
+// file.
 pub fn first_figure_outside(file: &[u8], from: usize, n: usize, p: usize, s: usize) -> Found
     requires { ⌜ Lies (now file) from 4 n p s ⌝ }
-    ensures { λ r. ⌜ r ≡ firstOutside (fromColumns (pos 0) p s (figuresAt (now (file .entry)) from n)) ⌝ }
+    ensures { λ r. ⌜ r ≡ firstOutside (orderOfT (pos 0) p s (figuresAt (now (file .entry)) from n)) ⌝ }
 {
-    let mut left = n;
-    while 0 < left {
-        let t = n - left;
-        if refusals::figure_outside(figure_of(file, from, n, p, s, t)) {
-            return Found::At(t);
-        }
-        left -= 1;
+    let mut lowest = n;
+    let mut t = chart::first_in(p, s, 0);
+    let mut i = 0;
+    while i < n {
+        let outside = refusals::figure_outside(stored_figure(file, from, i));
+        lowest = lower(outside, t, lowest);
+        t = chart::next(p, s, n, t);
+        i += 1;
     }
-    Found::Nowhere
+    found(lowest, n)
 }
 
 pub fn first_weight_above(file: &[u8], from: usize, n: usize, p: usize, s: usize) -> Found
     requires { ⌜ Lies (now file) from 2 n p s ⌝ }
-    ensures { λ r. ⌜ r ≡ firstAbove (fromColumns 0 p s (weightsAt (now (file .entry)) from n)) ⌝ }
+    ensures { λ r. ⌜ r ≡ firstAbove (orderOfT 0 p s (weightsAt (now (file .entry)) from n)) ⌝ }
 {
-    let mut left = n;
-    while 0 < left {
-        let t = n - left;
-        if refusals::weight_above(weight_of(file, from, n, p, s, t)) {
-            return Found::At(t);
-        }
-        left -= 1;
+    let mut lowest = n;
+    let mut t = chart::first_in(p, s, 0);
+    let mut i = 0;
+    while i < n {
+        let above = refusals::weight_above(stored_weight(file, from, i));
+        lowest = lower(above, t, lowest);
+        t = chart::next(p, s, n, t);
+        i += 1;
     }
-    Found::Nowhere
+    found(lowest, n)
+}
+
+// What was found: a month, or none of the n.
+fn found(lowest: usize, n: usize) -> Found
+    ensures { λ r. ⌜ r ≡ cond (ltb lowest n) (At lowest) Nowhere ⌝ }
+{
+    if lowest < n {
+        Found::At(lowest)
+    } else {
+        Found::Nowhere
+    }
 }
 
 // Fills the first n places of a slice, in order of t, from an array in the file.
 pub fn get_figures(file: &[u8], from: usize, n: usize, p: usize, s: usize, figures: &mut [i32])
     requires { ⌜ Lies (now file) from 4 n p s × (n ≤ length (now figures)) ⌝ }
-    ensures { λ _. ⌜ now (figures .exit) ≡ fromColumns (pos 0) p s (figuresAt (now (file .entry)) from n) ++ drop n (now (figures .entry)) ⌝ }
+    ensures { λ _. ⌜ now (figures .exit) ≡ orderOfT (pos 0) p s (figuresAt (now (file .entry)) from n) ++ drop n (now (figures .entry)) ⌝ }
 {
-    let mut t = 0;
-    while t < n {
-        figures[t] = figure_of(file, from, n, p, s, t);
-        t += 1;
+    let mut t = chart::first_in(p, s, 0);
+    let mut i = 0;
+    while i < n {
+        figures[t] = stored_figure(file, from, i);
+        t = chart::next(p, s, n, t);
+        i += 1;
     }
 }
 
 pub fn get_weights(file: &[u8], from: usize, n: usize, p: usize, s: usize, weights: &mut [u16])
     requires { ⌜ Lies (now file) from 2 n p s × (n ≤ length (now weights)) ⌝ }
-    ensures { λ _. ⌜ now (weights .exit) ≡ fromColumns 0 p s (weightsAt (now (file .entry)) from n) ++ drop n (now (weights .entry)) ⌝ }
+    ensures { λ _. ⌜ now (weights .exit) ≡ orderOfT 0 p s (weightsAt (now (file .entry)) from n) ++ drop n (now (weights .entry)) ⌝ }
 {
-    let mut t = 0;
-    while t < n {
-        weights[t] = weight_of(file, from, n, p, s, t);
-        t += 1;
+    let mut t = chart::first_in(p, s, 0);
+    let mut i = 0;
+    while i < n {
+        weights[t] = stored_weight(file, from, i);
+        t = chart::next(p, s, n, t);
+        i += 1;
     }
 }
 
 // Writes an array into the output: at place i the value of the month that stands there.
 pub fn put_figures(out: &mut [u8], from: usize, p: usize, s: usize, figures: &[i32])
     requires { ⌜ Lies (now out) from 4 (length (now figures)) p s ⌝ }
-    ensures { λ _. ⌜ now (out .exit) ≡ sets (now (out .entry)) from (figuresBytes (toColumns (pos 0) p s (now (figures .entry)))) ⌝ }
+    ensures { λ _. ⌜ now (out .exit) ≡ sets (now (out .entry)) from (figuresBytes (monthOrder (pos 0) p s (now (figures .entry)))) ⌝ }
 {
     let n = figures.len();
     let mut t = chart::first_in(p, s, 0);
@@ -125,7 +138,7 @@ pub fn put_figures(out: &mut [u8], from: usize, p: usize, s: usize, figures: &[i
 
 pub fn put_weights(out: &mut [u8], from: usize, p: usize, s: usize, weights: &[u16])
     requires { ⌜ Lies (now out) from 2 (length (now weights)) p s ⌝ }
-    ensures { λ _. ⌜ now (out .exit) ≡ sets (now (out .entry)) from (weightsBytes (toColumns 0 p s (now (weights .entry)))) ⌝ }
+    ensures { λ _. ⌜ now (out .exit) ≡ sets (now (out .entry)) from (weightsBytes (monthOrder 0 p s (now (weights .entry)))) ⌝ }
 {
     let n = weights.len();
     let mut t = chart::first_in(p, s, 0);
@@ -152,7 +165,7 @@ pub fn move_array(
     r: usize,
 )
     requires { ⌜ (width ≤ 4) × Lies (now file) from width n p s × Lies (now out) to width n q r ⌝ }
-    ensures { λ _. ⌜ now (out .exit) ≡ sets (now (out .entry)) to (array width (λ w. w) (toColumns 0 q r (fromColumns 0 p s (numbersAt width (now (file .entry)) from n)))) ⌝ }
+    ensures { λ _. ⌜ now (out .exit) ≡ sets (now (out .entry)) to (array width (λ w. w) (monthOrder 0 q r (orderOfT 0 p s (numbersAt width (now (file .entry)) from n)))) ⌝ }
 {
     let mut t = chart::first_in(q, r, 0);
     let mut i = 0;

@@ -19,11 +19,11 @@ use Rattle.refusals.proofs.CheckLaws.{_&_, one-more, each-passed, each-nowhere,
 use Rattle.desk_forms.specs.declared.Form.{Form}
 use Rattle.desk_forms.specs.declared.Form.the-variants.{Plain}
 use Rattle.desk_forms.specs.File.{headerLength, seriesIn}
-use Rattle.desk_forms.specs.FileChecks.{noYear, fileChecks, seriesChecks}
+use Rattle.desk_checks.specs.FileChecks.{contentsChecks, noYearsCheck, fileChecks, seriesChecks}
 use Rattle.desk_forms.specs.Header.{SeriesWithWeights, countIn, startIn, periodIn, lengthFor}
 use Rattle.desk_forms.specs.Forms.{frontOf, yearOf, meaningOf, Sized, Fitting}
 use Rattle.desk_forms.proofs.FormLaws.{meaning-start, meaning-months}
-use Rattle.desk_checks.specs.Checked.{formChecks, FileFits, SizesFit, contentsChecks, writtenChecks}
+use Rattle.desk_checks.specs.Checked.{formChecks, FileFits, SizesFit, writtenChecks}
 
 -- ---- a file whose sizes are right
 sized-by : (form : Form) (given : ℕ) (short : Bool) (file : List ℕ) {n start : ℕ} → Before 7 (formChecks form given short file) → n ≡ countIn file → start ≡ startIn file
@@ -152,15 +152,15 @@ module _ (form : Form) (given : ℕ) (short : Bool) (file : List ℕ) where
 -- ---- the plain form by itself has no year: from the earliest year on row 11 never applies, and can be left out
 module _ {A : Type 0} (otherwise : Answer A) where
   pub undated-file : (short : Bool) (file : List ℕ)
-      → firstToApply (formChecks Plain earliestYear short file) otherwise ≡ firstToApply (fileChecks headerLength noYear short (seriesIn file) file) otherwise
+      → firstToApply (formChecks Plain earliestYear short file) otherwise ≡ firstToApply (fileChecks headerLength noYearsCheck short (seriesIn file) file) otherwise
   undated-file short file =
-      let checks = fileChecks headerLength noYear short (seriesIn file) file in
+      let checks = fileChecks headerLength noYearsCheck short (seriesIn file) file in
       skipped (take 5 checks) (row11 earliestYear (startIn file) (countIn file)) (drop 5 checks) otherwise
       (λ h. ap not (from-year-one (startIn file) (countIn file) (start-inside (startIn file) (not-false _ (h .1 .1 .1 .0)) .1) (ltb-false mostMonths (countIn file) (h .1 .1 .0))))
 
   pub undated-series : (s : SeriesWithWeights) (room : ℕ)
-      → firstToApply (writtenChecks Plain earliestYear s room) otherwise ≡ firstToApply (seriesChecks headerLength noYear s room) otherwise
+      → firstToApply (writtenChecks Plain earliestYear s room) otherwise ≡ firstToApply (seriesChecks headerLength noYearsCheck s room) otherwise
   undated-series s room =
-      let checks = seriesChecks headerLength noYear s room in
+      let checks = seriesChecks headerLength noYearsCheck s room in
       skipped (take 3 checks) (row11 earliestYear (s .start) (length (s .figures))) (drop 3 checks) otherwise
       (λ h. ap not (from-year-one (s .start) (length (s .figures)) (start-inside (s .start) (not-false _ (h .1 .1 .0)) .1) (ltb-false mostMonths (length (s .figures)) (h .1 .0))))

@@ -1,2 +1,3 @@
--- What the checks of both forms of a desk file find (Checked).
+-- METHOD 8.2: the checks of a desk file in either form (FileChecks). Checked has what they find, for the entry points.
+pub mod FileChecks
 pub mod Checked

@@ -4,7 +4,7 @@ use refusals::Found;
 use refusals::Refusal;
 use refusals::Verdict;
 ghost use mathlib.Core.Path.{_≡_};
-ghost use Prim.Native.Nat.{min, _≤_};
+ghost use Prim.Native.Nat.{_≤_};
 ghost use Rattle.refusals.specs.Limits.{mostMonths};
 ghost use Rattle.desk_forms.specs.Header.{countIn, series};
 ghost use Rattle.desk_forms.specs.Forms.{Sized, meaningOf};
@@ -30,13 +30,13 @@ fn sizes(file: &[u8], form: Form, given: u16) -> Checked
         return Checked::Refused(Refusal::NoHeader);
     }
     let count = little_endian::number_at(file, 0, desk_forms::COUNT) as usize;
-    let start = file[2];
-    let period = file[3];
+    let start = file[desk_forms::START];
+    let period = file[desk_forms::PERIOD];
     let year = desk_forms::year_of(file, form, given);
     if let Verdict::Refused(refusal) = refusals::span(count, start) {
         return Checked::Refused(refusal);
     }
-    if period != desk_forms::PERIOD {
+    if period != desk_forms::MONTHLY {
         return Checked::Refused(Refusal::BadPeriod);
     }
     if refusals::years_outside(year, start, count) {
@@ -48,19 +48,13 @@ fn sizes(file: &[u8], form: Form, given: u16) -> Checked
     Checked::Fits { count, start, year }
 }
 
-fn shorter(a: usize, b: usize) -> usize
-    ensures { λ r. ⌜ r ≡ min a b ⌝ }
-{
-    if a < b { a } else { b }
-}
-
 // Row 4.
 fn too_short(lent: Lent, n: usize) -> bool
     requires { ⌜ n ≤ mostMonths ⌝ }
     ensures { λ r. ⌜ r ≡ tooShort lent n ⌝ }
 {
     match lent {
-        Lent::Slices { figures, weights } => shorter(figures, weights) < n,
+        Lent::Slices { figures, weights } => chart::least(figures, weights) < n,
         Lent::Bytes(form, room) => room < desk_forms::file_length(form, n),
     }
 }
@@ -99,10 +93,10 @@ pub fn check_file(file: &[u8], form: Form, given: u16, lent: Lent) -> Checked
     if too_short(lent, count) {
         return Checked::Refused(Refusal::WrongLength);
     }
-    let Verdict::Refused(refusal) = contents(file, form, count, start) else {
-        return answer;
-    };
-    Checked::Refused(refusal)
+    if let Verdict::Refused(refusal) = contents(file, form, count, start) {
+        return Checked::Refused(refusal);
+    }
+    answer
 }
 
 // A series to be written in a form, into an output of so many bytes.

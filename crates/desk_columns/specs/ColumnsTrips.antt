@@ -1,5 +1,6 @@
--- METHOD 7.9: the theorems on the desk file by calendar month and on moving, whole (shown in proofs/ColumnsTrip.antt). They speak of what the four
--- entry points promise; every lent slice of bytes is a byte string, `AreBytes` (the contract of little_endian::are_bytes).
+-- METHOD 7.9: the theorems on the desk file by calendar month and on moving, whole; the names in brackets are those of their proofs, in
+-- proofs/ColumnsTrip.antt. Those on reading, writing and moving speak of what the four entry points promise; every lent slice of bytes is a byte string,
+-- `AreBytes` (the contract of little_endian::are_bytes).
 use Prim.Native.Nat.{ℕ, _^_, _≤_, _<_}
 use mathlib.Core.Path.{_≡_}
 use mathlib.Core.List.{List, _++_}
@@ -20,7 +21,7 @@ use Rattle.desk_columns.specs.ReadColumns.{Dated, dated, readColumnsSays
 use Rattle.desk_columns.specs.WriteColumns.{WriteColumnsDone}
 use Rattle.desk_columns.specs.Moving.{MovedForward, sizeAndYear, backSays, MovedBack}
 
--- what the fields of a file by calendar month can hold, beside those of a plain one: a first year of 2 bytes; and there is a column for the start month
+-- what the fields of a file by calendar month can hold, beside those of a plain one: a first year of 2 bytes; and the start month is 1 to 12
 pub record StorableFrom (year : ℕ) (s : SeriesWithWeights) : Type 0 where
   pub plain : Storable s
   pub first : year < 2 ^ 16

@@ -8,23 +8,23 @@ use Rattle.refusals.specs.Sheet.{Answer, success, refusalOf}
 use Rattle.refusals.specs.Checks.{Check, firstToApply}
 use Rattle.desk_forms.specs.Header.{countIn, startIn}
 use Rattle.desk_forms.specs.File.{headerLength, fileLength, fileBytes, seriesIn}
-use Rattle.desk_forms.specs.ColumnsFile.{columnsHeaderLength, columnsLength, columnsBytes, firstYearIn, seriesInColumns}
-use Rattle.desk_forms.specs.FileChecks.{fromYear, fileChecks}
+use Rattle.desk_forms.specs.ColumnsFile.{columnsFront, columnsLength, columnsBytes, firstYearIn, seriesInColumns}
+use Rattle.desk_checks.specs.FileChecks.{yearsCheck, fileChecks}
 use Rattle.desk_forms.specs.After.{frontAfter}
 use Rattle.desk_file.specs.declared.Writing.{Writing}
 use Rattle.desk_file.specs.WriteFile.{writeSays}
 use Rattle.desk_columns.specs.declared.MovingBack.{MovingBack}
 use Rattle.desk_columns.specs.declared.MovingBack.the-variants.{Length, Refused}
-use Rattle.desk_columns.specs.ReadColumns.{yearsIn}
+use Rattle.desk_columns.specs.ReadColumns.{yearsCheckIn}
 
 -- ---- forward: a plain file, and the first year that the caller gives
 -- METHOD 8.2: the checks are those of a plain file, with row 11 of the given year; the output, which comes in by its length, has room for the file by
 -- calendar month
 abbrev pub forwardChecks : List ℕ → ℕ → ℕ → List Check
 forwardChecks file year room =
-    fileChecks headerLength (fromYear year (startIn file) (countIn file)) (ltb room (columnsLength (countIn file))) (seriesIn file) file
+    fileChecks headerLength (yearsCheck year (startIn file) (countIn file)) (ltb room (columnsLength (countIn file))) (seriesIn file) file
 
--- METHOD 7.8: the answer is the first that applies, else the length of the file by calendar month
+-- METHOD 8.2: the answer is the first that applies, else the length of the file by calendar month (7.8)
 unfoldable pub forwardAnswer : List ℕ → ℕ → ℕ → Answer ℕ
 forwardAnswer file year room = firstToApply (forwardChecks file year room) (success (columnsLength (countIn file)))
 
@@ -49,9 +49,9 @@ backSays (Refused q) = refusalOf q
 
 -- METHOD 8.2: the checks are those of a file by calendar month; the output, which comes in by its length, has room for the plain file
 abbrev pub backChecks : List ℕ → ℕ → List Check
-backChecks file room = fileChecks columnsHeaderLength (yearsIn file) (ltb room (fileLength (countIn file))) (seriesInColumns file) file
+backChecks file room = fileChecks columnsFront (yearsCheckIn file) (ltb room (fileLength (countIn file))) (seriesInColumns file) file
 
--- METHOD 7.8: the answer is the first that applies, else the length of the plain file and the first year
+-- METHOD 8.2: the answer is the first that applies, else the length of the plain file and the first year (7.8)
 unfoldable pub backAnswer : List ℕ → ℕ → Answer SizeAndYear
 backAnswer file room = firstToApply (backChecks file room) (sizeAndYear (fileLength (countIn file)) (firstYearIn file))
 

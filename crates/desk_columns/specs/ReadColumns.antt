@@ -8,8 +8,8 @@ use lib.ListN.{length}
 use Rattle.refusals.specs.Sheet.{Answer, success, refusalOf}
 use Rattle.refusals.specs.Checks.{Check, firstToApply}
 use Rattle.desk_forms.specs.Header.{countIn, startIn}
-use Rattle.desk_forms.specs.ColumnsFile.{columnsHeaderLength, firstYearIn, seriesInColumns}
-use Rattle.desk_forms.specs.FileChecks.{fromYear, fileChecks}
+use Rattle.desk_forms.specs.ColumnsFile.{columnsFront, firstYearIn, seriesInColumns}
+use Rattle.desk_checks.specs.FileChecks.{yearsCheck, fileChecks}
 use Rattle.desk_forms.specs.After.{frontAfter}
 use Rattle.desk_columns.specs.declared.ColumnsReading.{ColumnsReading}
 use Rattle.desk_columns.specs.declared.ColumnsReading.the-variants.{Series, Refused}
@@ -29,13 +29,13 @@ readColumnsSays (Series n start year) = dated n start year
 readColumnsSays (Refused q) = refusalOf q
 
 -- METHOD 8.2: row 11 of the years of a file by calendar month
-abbrev pub yearsIn : List ℕ → List Check
-yearsIn file = fromYear (firstYearIn file) (startIn file) (countIn file)
+abbrev pub yearsCheckIn : List ℕ → List Check
+yearsCheckIn file = yearsCheck (firstYearIn file) (startIn file) (countIn file)
 
 -- METHOD 8.2: the checks of reading by calendar month; the slices come in by their lengths, each n or more (7.7)
 abbrev pub readColumnsChecks : List ℕ → ℕ → ℕ → List Check
 readColumnsChecks file figuresRoom weightsRoom =
-    fileChecks columnsHeaderLength (yearsIn file) (ltb (min figuresRoom weightsRoom) (countIn file)) (seriesInColumns file) file
+    fileChecks columnsFront (yearsCheckIn file) (ltb (min figuresRoom weightsRoom) (countIn file)) (seriesInColumns file) file
 
 -- METHOD 8.2: the answer is the first that applies, else n, the start month and the first year
 unfoldable pub readColumnsAnswer : List ℕ → ℕ → ℕ → Answer Dated

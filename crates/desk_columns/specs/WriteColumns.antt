@@ -6,15 +6,15 @@ use lib.ListN.{length}
 use Rattle.refusals.specs.Sheet.{Answer, success}
 use Rattle.refusals.specs.Checks.{Check, firstToApply}
 use Rattle.desk_forms.specs.Header.{SeriesWithWeights}
-use Rattle.desk_forms.specs.ColumnsFile.{columnsHeaderLength, columnsLength, columnsBytes}
-use Rattle.desk_forms.specs.FileChecks.{fromYear, seriesChecks}
+use Rattle.desk_forms.specs.ColumnsFile.{columnsFront, columnsLength, columnsBytes}
+use Rattle.desk_checks.specs.FileChecks.{yearsCheck, seriesChecks}
 use Rattle.desk_forms.specs.After.{frontAfter}
 use Rattle.desk_file.specs.declared.Writing.{Writing}
 use Rattle.desk_file.specs.WriteFile.{writeSays}
 
 -- METHOD 8.2: the checks of writing by calendar month, from a first year on; the output comes in by its length
 abbrev pub writeColumnsChecks : ℕ → SeriesWithWeights → ℕ → List Check
-writeColumnsChecks year s room = seriesChecks columnsHeaderLength (fromYear year (s .start) (length (s .figures))) s room
+writeColumnsChecks year s room = seriesChecks columnsFront (yearsCheck year (s .start) (length (s .figures))) s room
 
 -- METHOD 8.2: the answer is the first that applies, else the length of the file
 unfoldable pub writeColumnsAnswer : ℕ → SeriesWithWeights → ℕ → Answer ℕ

@@ -1,9 +1,8 @@
 -- Reading, writing and moving in either form: what the checks found, and what the lent slices then hold. Nothing here is promised to a caller of the
 -- desk.
-use Prim.Native.Nat.{ℕ, min}
+use Prim.Native.Nat.{ℕ}
 use mathlib.Core.Path.{_≡_}
 use mathlib.Core.List.{List, _++_}
-use lib.Dec.{ltb}
 use lib.IntN.{ℤ}
 use lib.ListN.{length, drop}
 use Rattle.refusals.specs.declared.Refusal.{Refusal}
@@ -15,7 +14,6 @@ use Rattle.desk_forms.specs.Header.{SeriesWithWeights, countIn, lengthFor}
 use Rattle.desk_forms.specs.Forms.{frontOf, bytesIn, meaningOf}
 use Rattle.desk_checks.specs.declared.Checked.{Checked}
 use Rattle.desk_checks.specs.declared.Checked.the-variants.{Fits, Refused}
-use Rattle.desk_checks.specs.declared.Lent.{Lent}
 use Rattle.desk_checks.specs.declared.Lent.the-variants.{Slices, Bytes}
 use Rattle.desk_checks.specs.Checked.{tooShort, formChecks, FileFits, writtenChecks}
 

@@ -1,4 +1,5 @@
--- METHOD 7.4: the theorems on reading and writing together, whole (shown in proofs/RoundTrip.antt). They speak of what `read` and `write` promise,
+-- METHOD 7.4: the theorems on reading and writing together, whole; the names in brackets are those of their proofs, in proofs/RoundTrip.antt. They speak
+-- of what `read` and `write` promise,
 -- `ReadDone` and `WriteDone`; every lent slice of bytes is a byte string, `AreBytes` (the contract of little_endian::are_bytes).
 use Prim.Native.Nat.{ℕ, _≤_}
 use mathlib.Core.Path.{_≡_}

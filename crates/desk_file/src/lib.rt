@@ -19,7 +19,7 @@ pub enum Writing {
     Refused(Refusal),
 }
 
-// This form has no year: it is as if its series started in the earliest one, from which no series is too long.
+// This form has no year: it is as if its series started in the earliest one, from which none runs past the latest.
 const ANY_YEAR: u16 = refusals::EARLIEST_YEAR as u16;
 
 // Reads a desk file: the first n places of both slices are filled, the rest stays.

@@ -11,8 +11,8 @@ use Rattle.little_endian.specs.Bytes.{AreBytes, FourBytes, bytesOf, numberAt, w
 use Rattle.little_endian.proofs.NumberLaws.{number-past, number-back, bytes-back}
 use Rattle.little_endian.proofs.SignedLaws.{four-bytes, word-fits, signed-word, word-signed}
 use Rattle.little_endian.proofs.ArrayLaws.{array-back, array-again}
-use Rattle.chart.specs.Chart.{Starts, toColumns, fromColumns}
-use Rattle.chart.proofs.Rearranging.{length-toColumns, toColumns-each, columns-back, columns-again}
+use Rattle.chart.specs.Chart.{Starts, monthOrder, orderOfT}
+use Rattle.chart.proofs.Rearranging.{length-monthOrder, monthOrder-each, columns-back, columns-again}
 use Rattle.desk_arrays.specs.Arrays.{figuresBytes, weightsBytes, storedFigure, storedWeight, figuresAt, weightsAt}
 use Rattle.desk_forms.specs.declared.Form.{Form}
 use Rattle.desk_forms.specs.declared.Form.the-variants.{Plain, Columns}
@@ -69,26 +69,26 @@ module _ (form : Form) (year : ℕ) (s : SeriesWithWeights) (a : Storable s) (v 
   pub period-back : periodIn (bytesIn form year s) ≡ monthsOfYear
   period-back = rw (header-first form year s) (period-next months (s .start) monthsOfYear (behind form year s) (omega arith))
 
-  figures-back : toColumns (pos 0) (monthsIn form) (startOf form (s .start)) (s .figures) ≡ figuresAt (bytesIn form year s) (frontOf form) months
+  figures-back : monthOrder (pos 0) (monthsIn form) (startOf form (s .start)) (s .figures) ≡ figuresAt (bytesIn form year s) (frontOf form) months
   unfolding figuresAt storedFigure figuresBytes
   figures-back =
-      let xs = toColumns (pos 0) (monthsIn form) (startOf form (s .start)) (s .figures) in
+      let xs = monthOrder (pos 0) (monthsIn form) (startOf form (s .start)) (s .figures) in
       rw (in-parts form year s)
-      (rw (length-front form months (s .start) year, length-toColumns (pos 0) (monthsIn form) (startOf form (s .start)) v (s .figures))
+      (rw (length-front form months (s .start) year, length-monthOrder (pos 0) (monthsIn form) (startOf form (s .start)) v (s .figures))
       at (array-back (pos 0) 4 word signed xs (frontPart form year s) (weightsPart form s)
-      (λ t h. fits (getD xs t (pos 0)) (toColumns-each FourBytes (pos 0) (monthsIn form) (startOf form (s .start)) v (s .figures) (a .figuresFit) t h))))
+      (λ t h. fits (getD xs t (pos 0)) (monthOrder-each FourBytes (pos 0) (monthsIn form) (startOf form (s .start)) v (s .figures) (a .figuresFit) t h))))
     where
       fits : (x : ℤ) → FourBytes x → (word x < 256 ^ 4) × (signed (word x) ≡ x)
       fits x h = let f = four-bytes x h in (word-fits x f, signed-word x f)
 
-  weights-back : toColumns 0 (monthsIn form) (startOf form (s .start)) (s .weights) ≡ weightsAt (bytesIn form year s) (weightsStart (frontOf form) months) months
+  weights-back : monthOrder 0 (monthsIn form) (startOf form (s .start)) (s .weights) ≡ weightsAt (bytesIn form year s) (weightsStart (frontOf form) months) months
   unfolding weightsAt storedWeight weightsBytes
   weights-back =
-      let xs = toColumns 0 (monthsIn form) (startOf form (s .start)) (s .weights) in
+      let xs = monthOrder 0 (monthsIn form) (startOf form (s .start)) (s .weights) in
       let front = frontPart form year s ++ figuresPart form s in
-      let small = toColumns-each (λ (w : ℕ). w < 2 ^ 16) 0 (monthsIn form) (startOf form (s .start)) v (s .weights) (a .weightsFit) in
+      let small = monthOrder-each (λ (w : ℕ). w < 2 ^ 16) 0 (monthsIn form) (startOf form (s .start)) v (s .weights) (a .weightsFit) in
       rw (in-parts form year s)
-      (rw (append-nil (front ++ array 2 (λ (w : ℕ). w) xs), weights-start form year s v, length-toColumns 0 (monthsIn form) (startOf form (s .start)) v (s .weights), a .same)
+      (rw (append-nil (front ++ array 2 (λ (w : ℕ). w) xs), weights-start form year s v, length-monthOrder 0 (monthsIn form) (startOf form (s .start)) v (s .weights), a .same)
       at (array-back 0 2 (λ w. w) (λ w. w) xs front [] (λ t h. (small t h, refl))))
 
   pub meaning-back : meaningOf form (bytesIn form year s) ≡ s
@@ -138,9 +138,9 @@ module _ (file : List ℕ) (b : AreBytes file) where
       let begins : s .start ≡ start = meaning-start form file ∙ sym (z .begins) in
       let front : frontBytes form n start year ≡ take h file =
       rw (z .count, z .begins, y) (front-again form given (omega (arith, z .size)) p) in
-      let figures : toColumns (pos 0) (monthsIn form) (startOf form start) (s .figures) ≡ figuresAt file h n =
+      let figures : monthOrder (pos 0) (monthsIn form) (startOf form start) (s .figures) ≡ figuresAt file h n =
       rw (← form-figures z) (columns-again (pos 0) (monthsIn form) (startOf form start) v _) in
-      let weights : toColumns 0 (monthsIn form) (startOf form start) (s .weights) ≡ weightsAt file (weightsStart h n) n =
+      let weights : monthOrder 0 (monthsIn form) (startOf form start) (s .weights) ≡ weightsAt file (weightsStart h n) n =
       rw (← form-weights z) (columns-again 0 (monthsIn form) (startOf form start) v _) in
       in-parts form year s
       ∙ rw (

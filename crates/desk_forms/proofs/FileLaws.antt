@@ -13,25 +13,25 @@ use Rattle.little_endian.specs.Bytes.{AreBytes, bytesOf, numberAt, word, signed
 use Rattle.little_endian.proofs.NumberLaws.{length-bytes, number-small}
 use Rattle.little_endian.proofs.SignedLaws.{word-signed}
 use Rattle.little_endian.proofs.ArrayLaws.{length-array, array-same}
-use Rattle.chart.specs.Chart.{Starts, toColumns, fromColumns}
-use Rattle.chart.proofs.Rearranging.{length-toColumns, length-fromColumns, toColumns-pair, fromColumns-pair}
-use Rattle.chart.proofs.Loops.{toColumns-one}
+use Rattle.chart.specs.Chart.{Starts, monthOrder, orderOfT}
+use Rattle.chart.proofs.Rearranging.{length-monthOrder, length-orderOfT, monthOrder-pair, orderOfT-pair}
+use Rattle.chart.proofs.Loops.{one-starts, monthOrder-one}
 use Rattle.desk_arrays.specs.Arrays.{figuresBytes, weightsBytes, storedFigure, storedWeight, figuresAt, weightsAt}
 use Rattle.desk_arrays.specs.Contracts.{numbersAt}
 use Rattle.desk_arrays.proofs.ArrayLaws.{length-figuresAt, length-weightsAt, length-numbersAt, length-figuresBytes, length-weightsBytes}
 use Rattle.desk_forms.specs.declared.Form.{Form}
 use Rattle.desk_forms.specs.declared.Form.the-variants.{Plain, Columns}
 use Rattle.desk_forms.specs.Header.{SeriesWithWeights, header, countIn, startIn, periodIn, weightsStart, lengthFor}
-use Rattle.desk_forms.specs.File.{fileLength, fileBytes}
-use Rattle.desk_forms.specs.ColumnsFile.{columnsLength, columnsBytes}
+use Rattle.desk_forms.specs.File.{fileLength, fileBytes, FourAndSix, FileLength}
+use Rattle.desk_forms.specs.ColumnsFile.{columnsLength, columnsBytes, SixAndSix, ColumnsLength}
 use Rattle.desk_forms.specs.Forms.{frontOf, monthsIn, startOf, frontBytes, bytesIn, meaningOf, Sized, Fitting}
 use Rattle.desk_forms.proofs.FormLaws.{form-starts, form-figures, form-weights, meaning-start, meaning-months}
 
 -- ---- the lengths: 436 and 438 bytes for 72 months
-pub four-and-six : (n : ℕ) → fileLength n ≡ 4 + 6 * n
+pub four-and-six : FourAndSix
 four-and-six n = omega arith
 
-pub six-and-six : (n : ℕ) → columnsLength n ≡ 6 + 6 * n
+pub six-and-six : SixAndSix
 six-and-six n = omega arith
 
 pub of-72-months : (fileLength 72 ≡ 436) × (columnsLength 72 ≡ 438)
@@ -63,25 +63,25 @@ put-year out n start year = sym (sets-append out 0 4 (header n start monthsOfYea
 
 -- ---- a series as bytes: what stands before the figures, and both arrays in the order of the form
 abbrev pub figuresPart : Form → SeriesWithWeights → List ℕ
-figuresPart form s = figuresBytes (toColumns (pos 0) (monthsIn form) (startOf form (s .start)) (s .figures))
+figuresPart form s = figuresBytes (monthOrder (pos 0) (monthsIn form) (startOf form (s .start)) (s .figures))
 
 abbrev pub weightsPart : Form → SeriesWithWeights → List ℕ
-weightsPart form s = weightsBytes (toColumns 0 (monthsIn form) (startOf form (s .start)) (s .weights))
+weightsPart form s = weightsBytes (monthOrder 0 (monthsIn form) (startOf form (s .start)) (s .weights))
 
 abbrev pub frontPart : Form → ℕ → SeriesWithWeights → List ℕ
 frontPart form year s = frontBytes form (length (s .figures)) (s .start) year
 
 pub in-parts : (form : Form) (year : ℕ) (s : SeriesWithWeights) → bytesIn form year s ≡ frontPart form year s ++ figuresPart form s ++ weightsPart form s
 unfolding fileBytes columnsBytes
-in-parts Plain year s = rw (toColumns-one (pos 0) (s .figures), toColumns-one 0 (s .weights))
+in-parts Plain year s = rw (monthOrder-one (pos 0) (s .figures), monthOrder-one 0 (s .weights))
 in-parts Columns year s = refl
 
 module _ (form : Form) (year : ℕ) (s : SeriesWithWeights) (v : Starts (monthsIn form) (startOf form (s .start))) where
   length-figuresPart : length (figuresPart form s) ≡ 4 * length (s .figures)
-  length-figuresPart = length-figuresBytes _ ∙ ap (λ (k : ℕ). 4 * k) (length-toColumns (pos 0) (monthsIn form) (startOf form (s .start)) v (s .figures))
+  length-figuresPart = length-figuresBytes _ ∙ ap (λ (k : ℕ). 4 * k) (length-monthOrder (pos 0) (monthsIn form) (startOf form (s .start)) v (s .figures))
 
   length-weightsPart : length (weightsPart form s) ≡ 2 * length (s .weights)
-  length-weightsPart = length-weightsBytes _ ∙ ap (λ (k : ℕ). 2 * k) (length-toColumns 0 (monthsIn form) (startOf form (s .start)) v (s .weights))
+  length-weightsPart = length-weightsBytes _ ∙ ap (λ (k : ℕ). 2 * k) (length-monthOrder 0 (monthsIn form) (startOf form (s .start)) v (s .weights))
 
   pub weights-start : length (frontPart form year s ++ figuresPart form s) ≡ weightsStart (frontOf form) (length (s .figures))
   weights-start =
@@ -108,17 +108,23 @@ module _ (form : Form) (year : ℕ) (s : SeriesWithWeights) (v : Starts (monthsI
         rw (in-parts form year s, ← sets-append out 0 (frontOf form) h f (omega arith))
         (sym (sets-append out 0 (weightsStart (frontOf form) (length (s .figures))) (h ++ f) w (omega (arith, weights-start))) ∙ sets-eq (h ++ f ++ w) out 0 (omega (arith, length-parts)) ∙ rw l)
 
+pub plain-length : FileLength
+plain-length s same = file-length Plain 0 s one-starts same
+
+pub columns-length : ColumnsLength
+columns-length year s v same = file-length Columns year s v same
+
 -- ---- moved as numbers: the figures of a file, put into another order as numbers of 4 bytes, are its figures; its weights likewise
 module _ {A : Type 0} (d : A) (code : A → ℕ) (width p s q r : ℕ) (v : Starts p s) (u : Starts q r) (numbers : List ℕ) (values : List A) (same : length numbers ≡ length values)
     (each : (i : ℕ) → i < length numbers → getD numbers i 0 ≡ code (getD values i d)) where
-  pub moved-as : array width (λ (w : ℕ). w) (toColumns 0 q r (fromColumns 0 p s numbers)) ≡ array width code (toColumns d q r (fromColumns d p s values))
+  pub moved-as : array width (λ (w : ℕ). w) (monthOrder 0 q r (orderOfT 0 p s numbers)) ≡ array width code (monthOrder d q r (orderOfT d p s values))
   moved-as =
-      let there : length (fromColumns 0 p s numbers) ≡ length (fromColumns d p s values) =
-      length-fromColumns 0 p s v numbers ∙ same ∙ sym (length-fromColumns d p s v values) in
+      let there : length (orderOfT 0 p s numbers) ≡ length (orderOfT d p s values) =
+      length-orderOfT 0 p s v numbers ∙ same ∙ sym (length-orderOfT d p s v values) in
       let R : ℕ → A → Type 0 = λ (w : ℕ) (z : A). w ≡ code z in
       array-same 0 d width (λ (w : ℕ). w) code _ _
-      (length-toColumns 0 q r u (fromColumns 0 p s numbers) ∙ there ∙ sym (length-toColumns d q r u (fromColumns d p s values)))
-      (toColumns-pair R 0 d q r u (fromColumns 0 p s numbers) (fromColumns d p s values) there (fromColumns-pair R 0 d p s v numbers values same each))
+      (length-monthOrder 0 q r u (orderOfT 0 p s numbers) ∙ there ∙ sym (length-monthOrder d q r u (orderOfT d p s values)))
+      (monthOrder-pair R 0 d q r u (orderOfT 0 p s numbers) (orderOfT d p s values) there (orderOfT-pair R 0 d p s v numbers values same each))
 
 module _ (file : List ℕ) (from n : ℕ) where
   as-figure : AreBytes file → from + 4 * n ≤ length file → (i : ℕ) → i < length (numbersAt 4 file from n) → getD (numbersAt 4 file from n) i 0 ≡ word (getD (figuresAt file from n) i (pos 0))
@@ -140,8 +146,8 @@ module _ {form : Form} {file : List ℕ} {n start : ℕ} (z : Sized form file n 
   s = startOf form start
 
   -- the series that the file means, as it stands in the other form
-  pub moved-figures : array 4 (λ (w : ℕ). w) (toColumns 0 (monthsIn other) (startOf other start) (fromColumns 0 p s (numbersAt 4 file (frontOf form) n)))
-      ≡ figuresBytes (toColumns (pos 0) (monthsIn other) (startOf other start) (meaningOf form file .figures))
+  pub moved-figures : array 4 (λ (w : ℕ). w) (monthOrder 0 (monthsIn other) (startOf other start) (orderOfT 0 p s (numbersAt 4 file (frontOf form) n)))
+      ≡ figuresBytes (monthOrder (pos 0) (monthsIn other) (startOf other start) (meaningOf form file .figures))
   unfolding figuresBytes
   moved-figures =
       moved-as (pos 0) word 4 p s (monthsIn other) (startOf other start) (form-starts form start (z .inside)) (form-starts other start (z .inside))
@@ -149,7 +155,7 @@ module _ {form : Form} {file : List ℕ} {n start : ℕ} (z : Sized form file n 
       (length-numbersAt 4 file (frontOf form) n ∙ sym (length-figuresAt file (frontOf form) n)) (as-figure file (frontOf form) n b (omega (arith, z .size)))
       ∙ rw (form-figures z)
 
-  pub moved-weights : array 2 (λ (w : ℕ). w) (toColumns 0 (monthsIn other) (startOf other start) (fromColumns 0 p s (numbersAt 2 file (weightsStart (frontOf form) n) n)))
-      ≡ weightsBytes (toColumns 0 (monthsIn other) (startOf other start) (meaningOf form file .weights))
+  pub moved-weights : array 2 (λ (w : ℕ). w) (monthOrder 0 (monthsIn other) (startOf other start) (orderOfT 0 p s (numbersAt 2 file (weightsStart (frontOf form) n) n)))
+      ≡ weightsBytes (monthOrder 0 (monthsIn other) (startOf other start) (meaningOf form file .weights))
   unfolding weightsBytes
   moved-weights = rw (as-weight file (weightsStart (frontOf form) n) n, form-weights z)

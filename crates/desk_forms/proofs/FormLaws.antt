@@ -9,10 +9,10 @@ use lib.ListN.{length}
 use Rattle.refusals.specs.Limits.{leastMonths, mostMonths, monthsOfYear}
 use Rattle.refusals.specs.Inside.{startInside}
 use Rattle.refusals.proofs.InsideLaws.{start-inside}
-use Rattle.chart.specs.Chart.{Starts, fromColumns}
+use Rattle.chart.specs.Chart.{Starts, orderOfT}
 use Rattle.chart.specs.Contracts.{Charted}
-use Rattle.chart.proofs.Rearranging.{length-fromColumns}
-use Rattle.chart.proofs.Loops.{one-starts, fromColumns-one}
+use Rattle.chart.proofs.Rearranging.{length-orderOfT}
+use Rattle.chart.proofs.Loops.{one-starts, orderOfT-one}
 use Rattle.desk_arrays.specs.Arrays.{figuresAt, weightsAt}
 use Rattle.desk_arrays.specs.Contracts.{Lies}
 use Rattle.desk_arrays.proofs.ArrayLaws.{length-figuresAt, length-weightsAt}
@@ -59,15 +59,15 @@ module _ {form : Form} {file : List ℕ} {n start : ℕ} (z : Sized form file n 
 
 -- ---- what a file means
 pub figures-by : (form : Form) (file : List ℕ)
-    → fromColumns (pos 0) (monthsIn form) (startOf form (startIn file)) (figuresAt file (frontOf form) (countIn file)) ≡ meaningOf form file .figures
+    → orderOfT (pos 0) (monthsIn form) (startOf form (startIn file)) (figuresAt file (frontOf form) (countIn file)) ≡ meaningOf form file .figures
 unfolding seriesIn seriesInColumns
-figures-by Plain file = fromColumns-one (pos 0) _
+figures-by Plain file = orderOfT-one (pos 0) _
 figures-by Columns file = refl
 
 pub weights-by : (form : Form) (file : List ℕ)
-    → fromColumns 0 (monthsIn form) (startOf form (startIn file)) (weightsAt file (weightsStart (frontOf form) (countIn file)) (countIn file)) ≡ meaningOf form file .weights
+    → orderOfT 0 (monthsIn form) (startOf form (startIn file)) (weightsAt file (weightsStart (frontOf form) (countIn file)) (countIn file)) ≡ meaningOf form file .weights
 unfolding seriesIn seriesInColumns
-weights-by Plain file = fromColumns-one 0 _
+weights-by Plain file = orderOfT-one 0 _
 weights-by Columns file = refl
 
 pub meaning-start : (form : Form) (file : List ℕ) → meaningOf form file .start ≡ startIn file
@@ -82,15 +82,15 @@ meaning-whole Columns file = refl
 
 -- its series, in order of t
 module _ {form : Form} {file : List ℕ} {n start : ℕ} (z : Sized form file n start) where
-  pub form-figures : fromColumns (pos 0) (monthsIn form) (startOf form start) (figuresAt file (frontOf form) n) ≡ meaningOf form file .figures
+  pub form-figures : orderOfT (pos 0) (monthsIn form) (startOf form start) (figuresAt file (frontOf form) n) ≡ meaningOf form file .figures
   form-figures = rw (z .count, z .begins) (figures-by form file)
 
-  pub form-weights : fromColumns 0 (monthsIn form) (startOf form start) (weightsAt file (weightsStart (frontOf form) n) n) ≡ meaningOf form file .weights
+  pub form-weights : orderOfT 0 (monthsIn form) (startOf form start) (weightsAt file (weightsStart (frontOf form) n) n) ≡ meaningOf form file .weights
   form-weights = rw (z .count, z .begins) (weights-by form file)
 
   pub meaning-months : (length (meaningOf form file .figures) ≡ n) × (length (meaningOf form file .weights) ≡ n)
   meaning-months =
       let v = form-starts form start (z .inside) in (
-        ap length (sym form-figures) ∙ length-fromColumns (pos 0) (monthsIn form) (startOf form start) v _ ∙ length-figuresAt file (frontOf form) n,
-        ap length (sym form-weights) ∙ length-fromColumns 0 (monthsIn form) (startOf form start) v _ ∙ length-weightsAt file (weightsStart (frontOf form) n) n,
+        ap length (sym form-figures) ∙ length-orderOfT (pos 0) (monthsIn form) (startOf form start) v _ ∙ length-figuresAt file (frontOf form) n,
+        ap length (sym form-weights) ∙ length-orderOfT 0 (monthsIn form) (startOf form start) v _ ∙ length-weightsAt file (weightsStart (frontOf form) n) n,
       )

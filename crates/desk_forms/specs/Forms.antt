@@ -12,12 +12,12 @@ use Rattle.desk_forms.specs.declared.Form.{Form}
 use Rattle.desk_forms.specs.declared.Form.the-variants.{Plain, Columns}
 use Rattle.desk_forms.specs.Header.{SeriesWithWeights, header, countIn, startIn, lengthFor}
 use Rattle.desk_forms.specs.File.{headerLength, fileBytes, seriesIn}
-use Rattle.desk_forms.specs.ColumnsFile.{columnsHeaderLength, columnsBytes, firstYearIn, seriesInColumns}
+use Rattle.desk_forms.specs.ColumnsFile.{columnsFront, columnsBytes, firstYearIn, seriesInColumns}
 
 -- how many bytes stand before the figures
 abbrev pub frontOf : Form → ℕ
 frontOf Plain = headerLength
-frontOf Columns = columnsHeaderLength
+frontOf Columns = columnsFront
 
 -- these bytes
 abbrev pub frontBytes : Form → ℕ → ℕ → ℕ → List ℕ

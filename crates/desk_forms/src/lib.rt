@@ -17,19 +17,24 @@ pub enum Form {
     Columns,
 }
 
-// Bytes of the header, of the count in it, of the first year, and of a month in both arrays.
-const HEADER: usize = 4;
-
+// The header: bytes of the count, then the places of the start month and of the period, and where it ends.
 pub const COUNT: usize = 2;
 
+pub const START: usize = 2;
+
+pub const PERIOD: usize = 3;
+
+const HEADER: usize = 4;
+
+// Bytes of the first year, of all before the figures by calendar month, and of a month in both arrays.
 const YEAR: usize = 2;
 
-const COLUMNS_HEADER: usize = 6;
+const COLUMNS_FRONT: usize = HEADER + YEAR;
 
-const MONTH: usize = 6;
+const MONTH: usize = desk_arrays::FIGURE + desk_arrays::WEIGHT;
 
 // The period of a desk file.
-pub const PERIOD: u8 = refusals::MONTHS_OF_YEAR as u8;
+pub const MONTHLY: u8 = refusals::MONTHS_OF_YEAR as u8;
 
 // The bytes before the figures.
 pub fn front_of(form: Form) -> usize
@@ -37,7 +42,7 @@ pub fn front_of(form: Form) -> usize
 {
     match form {
         Form::Plain => HEADER,
-        Form::Columns => COLUMNS_HEADER,
+        Form::Columns => COLUMNS_FRONT,
     }
 }
 
@@ -49,7 +54,7 @@ pub fn file_length(form: Form, n: usize) -> usize
     front_of(form) + MONTH * n
 }
 
-// The order of its arrays: months in a year, and the start month.
+// The order of its arrays, as a month order: the months in a year, and the start month. With one month in a year it is the order of t.
 pub fn months_in(form: Form) -> usize
     ensures { λ r. ⌜ r ≡ monthsIn form ⌝ }
 {

@@ -2,7 +2,9 @@
 use crate::COUNT;
 use crate::Form;
 use crate::HEADER;
+use crate::MONTHLY;
 use crate::PERIOD;
+use crate::START;
 use crate::YEAR;
 use crate::front_of;
 use crate::months_in;
@@ -38,8 +40,8 @@ fn put_header(out: &mut [u8], n: usize, start: u8)
     ensures { λ _. ⌜ now (out .exit) ≡ sets (now (out .entry)) 0 (header n start monthsOfYear) ⌝ }
 {
     little_endian::put_number(out, 0, COUNT, n as u32);
-    out[2] = start;
-    out[3] = PERIOD;
+    out[START] = start;
+    out[PERIOD] = MONTHLY;
 }
 
 // Writes the bytes before the figures: the header, and by calendar month the first year.

@@ -16,7 +16,8 @@ use Rattle.desk_columns.specs.declared.MovingBack.{MovingBack}
 use Rattle.desk_columns.specs.declared.MovingBack.the-variants as back
 use Rattle.desk_columns.specs.ReadColumns.{Dated, readColumnsSays, ReadColumnsDone}
 use Rattle.desk_columns.specs.Moving.{SizeAndYear, backSays, MovedBack}
-use Rattle.desk_numbers.specs.DeskNumbers.{ReadNumbers, ReadColumnsNumbers, SizeTold, WrittenNumbers, BackNumbers}
+use Rattle.desk_numbers.specs.DeskNumbers.{ReadNumbers, ReadColumnsNumbers, WriteTold, BackNumbers}
+use Rattle.desk_numbers.specs.Contracts.{SizeTold}
 
 module _ {file : List ℕ} {f₀ f : List ℤ} {w₀ w : List ℕ} {r : Reading} (p : ReadDone file f₀ w₀ r f w) where
   pub has-series : {n m : ℕ} → r ≡ reading.Series n m → ReadNumbers file f₀ w₀ 0 n m 0 f w
@@ -68,7 +69,7 @@ module _ {file : List ℕ} {f₀ f : List ℤ} {w₀ w : List ℕ} {r : ColumnsR
 
 -- writing in either form, and moving forward
 pub written : {said answer : Answer ℕ} {bytes out₀ out : List ℕ} {k n t : ℕ} → SizeTold said k n t → said ≡ answer → out ≡ frontAfter answer bytes out₀
-    → WrittenNumbers answer bytes out₀ k n t out
+    → WriteTold answer bytes out₀ k n t out
 written told e left =
     record { number-is = told .number-is ∙ ap numberOf e; size-is = told .size-is ∙ ap (valueOf (λ (n : ℕ). n)) e; place-is = told .place-is ∙ ap placeOf e; out-left = left }
 

@@ -25,6 +25,6 @@ lastYear firstYear start n = firstYear + (start - 1 + n - 1) / monthsOfYear
 unfoldable pub yearInside : ℕ → Bool
 yearInside year = leb earliestYear year && leb year latestYear
 
--- the first year and the year of the last month
+-- both the first year and the year of the last month
 unfoldable pub yearsInside : ℕ → ℕ → ℕ → Bool
 yearsInside firstYear start n = yearInside firstYear && yearInside (lastYear firstYear start n)

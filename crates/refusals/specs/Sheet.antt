@@ -22,9 +22,11 @@ row WrongLength = numbered 4 0
 row (FigureOutside t) = numbered 5 t
 -- dropping would empty a group (never: METHOD 5.8)
 row EmptyGroup = numbered 6 0
--- a file has fewer bytes than its form's header, 4 or 6; its period is not 12; it is not as many bytes longer as 6n
+-- a file has fewer than 4 bytes, by calendar month fewer than 6
 row NoHeader = numbered 7 0
+-- its period is not 12
 row BadPeriod = numbered 8 0
+-- its length is not 4 + 6n bytes, by calendar month 6 + 6n
 row BadFileLength = numbered 9 0
 -- a weight is above 1,000, the first of them at t
 row (WeightAbove t) = numbered 10 t

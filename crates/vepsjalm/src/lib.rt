@@ -1,13 +1,7 @@
 // METHOD 8.5: decomposing, and reading, writing and moving desk files, for callers in other languages: an answer is a number, 0 for success, else the
 // refusal's number.
-ghost use lib.ListN.{length};
 ghost use Rattle.desk_forms.specs.Header.{series};
-ghost use Rattle.desk_forms.specs.File.{fileBytes, seriesIn};
-ghost use Rattle.desk_forms.specs.ColumnsFile.{columnsBytes};
-ghost use Rattle.desk_file.specs.WriteFile.{writeAnswer};
-ghost use Rattle.desk_columns.specs.WriteColumns.{writeColumnsAnswer};
-ghost use Rattle.desk_columns.specs.Moving.{forwardAnswer};
-ghost use Rattle.desk_numbers.specs.DeskNumbers.{BackNumbers, ReadColumnsNumbers, ReadNumbers, WrittenNumbers};
+ghost use Rattle.desk_numbers.specs.DeskNumbers.{BackNumbers, ForwardNumbers, ReadColumnsNumbers, ReadNumbers, WriteColumnsNumbers, WriteNumbers};
 ghost use Rattle.vepsjalm.specs.Numbers.{DecomposeNumbers};
 use decompose::Decomposed;
 
@@ -62,8 +56,7 @@ pub extern "C" fn vepsjalm_write(
     size: &mut usize,
     place: &mut usize,
 ) -> u8
-    ensures { λ r. ⌜ WrittenNumbers (writeAnswer (series start (now (figures .entry)) (now (weights .entry))) (length (now (out .entry))))
-        (fileBytes (series start (now (figures .entry)) (now (weights .entry)))) (now (out .entry)) r (now (size .exit)) (now (place .exit)) (now (out .exit)) ⌝ }
+    ensures { λ r. ⌜ WriteNumbers (series start (now (figures .entry)) (now (weights .entry))) (now (out .entry)) r (now (size .exit)) (now (place .exit)) (now (out .exit)) ⌝ }
 {
     desk_numbers::write(figures, start, weights, out, size, place)
 }
@@ -93,8 +86,7 @@ pub extern "C" fn vepsjalm_write_columns(
     size: &mut usize,
     place: &mut usize,
 ) -> u8
-    ensures { λ r. ⌜ WrittenNumbers (writeColumnsAnswer year (series start (now (figures .entry)) (now (weights .entry))) (length (now (out .entry))))
-        (columnsBytes year (series start (now (figures .entry)) (now (weights .entry)))) (now (out .entry)) r (now (size .exit)) (now (place .exit)) (now (out .exit)) ⌝ }
+    ensures { λ r. ⌜ WriteColumnsNumbers year (series start (now (figures .entry)) (now (weights .entry))) (now (out .entry)) r (now (size .exit)) (now (place .exit)) (now (out .exit)) ⌝ }
 {
     desk_numbers::write_columns(figures, start, year, weights, out, size, place)
 }
@@ -107,8 +99,7 @@ pub extern "C" fn vepsjalm_to_columns(
     size: &mut usize,
     place: &mut usize,
 ) -> u8
-    ensures { λ r. ⌜ WrittenNumbers (forwardAnswer (now (file .entry)) year (length (now (out .entry))))
-        (columnsBytes year (seriesIn (now (file .entry)))) (now (out .entry)) r (now (size .exit)) (now (place .exit)) (now (out .exit)) ⌝ }
+    ensures { λ r. ⌜ ForwardNumbers (now (file .entry)) year (now (out .entry)) r (now (size .exit)) (now (place .exit)) (now (out .exit)) ⌝ }
 {
     desk_numbers::to_columns(file, year, out, size, place)
 }

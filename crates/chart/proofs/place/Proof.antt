@@ -2,36 +2,29 @@
 -- Assumes nothing.
 use Prim.Native.Nat.{_+_, _/_, _<_}
 use mathlib.Core.Path.{_≡_}
-use native.Mathlib.Nat.{mod-lt}
 use native.Mathlib.Omega.{arith}
-use Rattle.chart.specs.Chart.{place, columnOf}
+use Rattle.chart.specs.Chart.{place}
 use Rattle.chart.proofs.Places.{place-below}
 use borrow.Author.Needs.{needs}
 use Rattle.chart.proofs.place.Statement.{statement}
 use Rattle.chart.proofs.place.Tie as tie
 
-sub-before : tie.Need-sub-before
-sub-before c = search needs
-
-add-before : tie.Need-add-before
-add-before c = search needs
-
-rem-before : tie.Need-rem-before
-rem-before c = search needs
+column-of-requires : tie.Need-column-of-requires
+column-of-requires c κs = search needs
 
 before-requires : tie.Need-before-requires
-before-requires c κs = (c .pre .0, mod-lt _ (omega arith))
+before-requires c κs = search needs
 
 div-result : tie.Need-div-result
 div-result c = search needs
 
 -- what the sum is
-is-place : (c : tie.After-before2) → c .before2 .result + c .before .args .t / c .before .args .p ≡ place (c .before .args .p) (c .before .args .s) (c .before .args .n) (c .before .args .t)
-unfolding place columnOf
-is-place c = rw (c .before2 .ensures)
+is-place : (c : tie.After-before2) → let a = c .before .before .args in c .before2 .result + a .t / a .p ≡ place (a .p) (a .s) (a .n) (a .t)
+unfolding place
+is-place c = rw (c .before2 .ensures, c .before .column-of .ensures .0)
 
-below : (c : tie.After-before2) → c .before2 .result + c .before .args .t / c .before .args .p < c .before .args .n
-below c = let a = c .before .args in rw (is-place c) (place-below (a .p) (a .s) (c .before .pre .0 .starts) (a .n) (a .t) (omega arith))
+below : (c : tie.After-before2) → let a = c .before .before .args in c .before2 .result + a .t / a .p < a .n
+below c = let s = c .before .before in let a = s .args in rw (is-place c) (place-below (a .p) (a .s) (s .pre .0 .starts) (a .n) (a .t) (s .pre .1))
 
 add-result : tie.Need-add-result
 add-result c = record { fits = omega (arith, below c) }
@@ -40,6 +33,4 @@ returns : tie.Need-returns
 returns c = (is-place c, below c)
 
 pub place-spec : {M : Type 1} → statement M
-place-spec =
-    tie.close
-    (tie.spec sub-before add-before rem-before before-requires div-result add-result returns)
+place-spec = tie.close (tie.spec column-of-requires before-requires div-result add-result returns)

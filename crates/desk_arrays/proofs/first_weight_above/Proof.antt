@@ -1,41 +1,42 @@
--- `desk_arrays::first_weight_above` meets its contract: the weights of the months before those that are left pass, and the first that fails is the answer.
+-- `desk_arrays::first_weight_above` meets its contract: of the months before place i, where month t stands, the lowest whose weight is bad is kept.
 -- Assumes nothing.
-use Prim.Native.Nat.{_-_, _≤_}
+use Prim.Native.Nat.{_-_}
+use mathlib.Core.Path.{_∙_}
 use native.Mathlib.Omega.{arith}
 use borrow.Author.Needs.{needs}
 use Rattle.refusals.specs.First.{firstAbove}
 use Rattle.refusals.specs.Inside.{weightInside}
 use Rattle.desk_arrays.specs.Arrays.{storedWeight, weightsAt}
-use Rattle.desk_arrays.proofs.ArrayLaws.{PassedIn, none-passed, month-passed, month-found, no-month}
+use Rattle.desk_arrays.proofs.ArrayLaws.{Lowest, lowest-none, lowest-more, lowest-told}
 use Rattle.desk_arrays.proofs.first_weight_above.Statement.{statement}
 use Rattle.desk_arrays.proofs.first_weight_above.Tie as tie
 
 abbrev Inv-loop : tie.InvT-loop
-Inv-loop file from n p s left₀ left = (left ≤ n) × PassedIn 0 weightInside (storedWeight file from) p s n (n - left)
+Inv-loop file from n p s lowest₀ t₀ i₀ lowest t i = Lowest weightInside (storedWeight file from) p s n i t lowest
 
 abbrev μ-loop : tie.MeasureT-loop
-μ-loop file from n p s left₀ left = left
+μ-loop file from n p s lowest₀ t₀ i₀ lowest t i = n - i
+
+first-in-requires : tie.Need-first-in-requires Inv-loop μ-loop
+first-in-requires c κs = search needs
 
 loop-holds : tie.Need-loop-holds Inv-loop μ-loop
-loop-holds c = (omega arith, none-passed (c .before .pre .charted .starts) (omega arith))
+loop-holds c = lowest-none (c .before .before .pre .charted) (c .first-in .ensures .0)
 
-sub-t : tie.Need-sub-t Inv-loop μ-loop
-sub-t c = omega arith
-
-weight-of-requires : tie.Need-weight-of-requires Inv-loop μ-loop
-weight-of-requires c κs = search needs
+stored-weight-requires : tie.Need-stored-weight-requires Inv-loop μ-loop
+stored-weight-requires c κs = search needs
 
 weight-above-requires : tie.Need-weight-above-requires Inv-loop μ-loop
 weight-above-requires c κs = tt
 
-returns : tie.Need-returns Inv-loop μ-loop
-unfolding firstAbove weightsAt
-returns c =
-    let v = c .before .before in
-    month-found (v .before .before .loop .inv .1) (omega arith) (v .weight-of .ensures) (c .before .weight-above .ensures) (c .if1 .taken)
+lower-requires : tie.Need-lower-requires Inv-loop μ-loop
+lower-requires c κs = tt
 
-sub-left : tie.Need-sub-left Inv-loop μ-loop
-sub-left c = omega arith
+next-requires : tie.Need-next-requires Inv-loop μ-loop
+next-requires c κs = search needs
+
+add-i : tie.Need-add-i Inv-loop μ-loop
+add-i c = omega arith
 
 loop-less : tie.Need-loop-less Inv-loop μ-loop
 loop-less c = omega arith
@@ -43,11 +44,14 @@ loop-less c = omega arith
 loop-again : tie.Need-loop-again Inv-loop μ-loop
 loop-again c =
     let v = c .before .before in
-    (omega arith, month-passed (v .before .before .loop .inv .1) (omega arith) (v .weight-of .ensures) (c .before .weight-above .ensures) (c .if1 .left) (omega arith))
+    lowest-more (v .before .before .before .loop .inv) (omega arith) (v .before .stored-weight .ensures) (v .weight-above .ensures) (c .before .lower .ensures) (c .next .ensures)
 
-returns-2 : tie.Need-returns-2 Inv-loop μ-loop
+found-requires : tie.Need-found-requires Inv-loop μ-loop
+found-requires c κs = tt
+
+returns : tie.Need-returns Inv-loop μ-loop
 unfolding firstAbove weightsAt
-returns-2 c = no-month (c .before .loop .inv .1) (omega arith)
+returns c = c .found .ensures ∙ lowest-told 0 (c .before .before .loop .inv) (omega arith)
 
 pub first-weight-above-spec : {M : Type 1} → statement M
 first-weight-above-spec =
@@ -55,12 +59,14 @@ first-weight-above-spec =
     (tie.spec
     Inv-loop
     μ-loop
+    first-in-requires
     loop-holds
-    sub-t
-    weight-of-requires
+    stored-weight-requires
     weight-above-requires
-    returns
-    sub-left
+    lower-requires
+    next-requires
+    add-i
     loop-less
     loop-again
-    returns-2)
+    found-requires
+    returns)

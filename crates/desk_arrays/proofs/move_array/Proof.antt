@@ -6,15 +6,15 @@ use native.Mathlib.Omega.{arith}
 use borrow.Author.Needs.{needs}
 use lib.ListN.{length}
 use Rattle.little_endian.specs.Bytes.{numberAt}
-use Rattle.chart.specs.Chart.{fromColumns}
-use Rattle.chart.proofs.Rearranging.{length-fromColumns}
+use Rattle.chart.specs.Chart.{orderOfT}
+use Rattle.chart.proofs.Rearranging.{length-orderOfT}
 use Rattle.desk_arrays.specs.Contracts.{numbersAt}
 use Rattle.desk_arrays.proofs.ArrayLaws.{length-numbersAt, part-fits, number-of, Stored, stored-none, stored-room, stored-more, stored-all}
 use Rattle.desk_arrays.proofs.move_array.Statement.{statement}
 use Rattle.desk_arrays.proofs.move_array.Tie as tie
 
 abbrev Inv-loop : tie.InvT-loop
-Inv-loop file from width n p s out₀ to q r t₀ i₀ out t i = Stored 0 width (λ w. w) q r n (fromColumns 0 p s (numbersAt width file from n)) to out₀ i t out
+Inv-loop file from width n p s out₀ to q r t₀ i₀ out t i = Stored 0 width (λ w. w) q r n (orderOfT 0 p s (numbersAt width file from n)) to out₀ i t out
 
 abbrev μ-loop : tie.MeasureT-loop
 μ-loop file from width n p s out₀ to q r t₀ i₀ out t i = n - i
@@ -32,7 +32,7 @@ loop-holds : tie.Need-loop-holds Inv-loop μ-loop
 loop-holds c =
     let b = c .before .before .before in
     let a = b .args in
-    stored-none (b .pre .2) (length-fromColumns 0 (a .p) (a .s) (b .pre .1 .charted .starts) _ ∙ length-numbersAt (a .width) (a .file .now) (a .from) (a .n)) (c .first-in .ensures .0)
+    stored-none (b .pre .2) (length-orderOfT 0 (a .p) (a .s) (b .pre .1 .charted .starts) _ ∙ length-numbersAt (a .width) (a .file .now) (a .from) (a .n)) (c .first-in .ensures .0)
 
 place-requires : tie.Need-place-requires Inv-loop μ-loop
 place-requires c κs = search needs

@@ -67,20 +67,20 @@ contents-requires c κs = sizes-sized (fits (c .before .before .before))
 enum-known-refusal : tie.Need-enum-known-refusal
 enum-known-refusal c = search needs
 
-enum-told-2 : tie.Need-enum-told-2
-enum-told-2 c = search needs
-
 returns-3 : tie.Need-returns-3
 returns-3 c =
-    let k = c .before .before in
-    let o = k .before .before in
-    contents-passed (fits (o .before .before)) (short o ∙ k .before .if1 .left) (found k (c .enum-told2 .given .1))
-
-returns-4 : tie.Need-returns-4
-returns-4 c =
     let k = c .before .before .before in
     let o = k .before .before in
     contents-stopped (fits (o .before .before)) (short o ∙ k .before .if1 .left) (found k (c .before .refusal .given .1))
+
+enum-told-2 : tie.Need-enum-told-2
+enum-told-2 c = search needs
+
+returns-4 : tie.Need-returns-4
+returns-4 c =
+    let k = c .before .before in
+    let o = k .before .before in
+    contents-passed (fits (o .before .before)) (short o ∙ k .before .if1 .left) (found k (c .enum-told2 .given .1))
 
 pub check-file-spec : {M : Type 1} → statement M
 check-file-spec =
@@ -94,6 +94,6 @@ check-file-spec =
     returns-2
     contents-requires
     enum-known-refusal
-    enum-told-2
     returns-3
+    enum-told-2
     returns-4)
