@@ -1,5 +1,4 @@
 -- METHOD 7.6 on small series, computed.
-use Prim.Native.Nat.{ℕ}
 use mathlib.Core.Path.{_≡_, refl}
 use mathlib.Core.List.{[], _∷_}
 use Rattle.integers.specs.Lists.{tabFrom, tab}

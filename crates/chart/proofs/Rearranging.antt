@@ -12,7 +12,7 @@ use Rattle.integers.specs.Sums.{sumN}
 use Rattle.integers.proofs.SumLaws.{sumN-more, sumN-upto}
 use Rattle.integers.proofs.FillingLaws.{length-tab, at-tab, tab-same}
 use Rattle.chart.specs.Chart.{Starts, columnOf, firstIn, inColumn, place, column, nextColumns, monthOrder, orderOfT}
-use Rattle.chart.specs.Rearranging.{StandsAt, OneForEach, Places, Ordered, InOrder, Kept, NothingLost}
+use Rattle.chart.specs.Rearranging.{StandsAt, Places, InOrder, NothingLost}
 use Rattle.chart.proofs.Places.{column-below, month-cell, in-its-column, all-columns, place-below, place-column, place-age, place-onto}
 
 -- ---- lists

@@ -1,6 +1,6 @@
 -- A series that fits, written in either form, is a file that fits; and a file that fits means a series that fits, whose bytes are that file.
 use Prim.Native.Nat.{ℕ, _^_, _<_, _≤_}
-use mathlib.Core.Path.{_≡_, refl, sym, ap, _∙_}
+use mathlib.Core.Path.{_≡_, refl, sym}
 use mathlib.Core.Bool.{Bool, false}
 use mathlib.Core.List.{List}
 use native.Mathlib.Omega.{arith}
@@ -17,7 +17,7 @@ use Rattle.chart.specs.Chart.{Starts}
 use Rattle.desk_forms.specs.declared.Form.{Form}
 use Rattle.desk_forms.specs.Header.{SeriesWithWeights, Storable, countIn, startIn, lengthFor}
 use Rattle.desk_forms.specs.Forms.{frontOf, monthsIn, startOf, yearOf, bytesIn, meaningOf}
-use Rattle.desk_forms.proofs.FormLaws.{form-starts, meaning-start}
+use Rattle.desk_forms.proofs.FormLaws.{form-starts}
 use Rattle.desk_forms.proofs.FileLaws.{file-length}
 use Rattle.desk_forms.proofs.Decoding.{count-back, start-back, period-back, meaning-back, year-back, bytes-again}
 use Rattle.desk_checks.specs.Checked.{formChecks, FileFits}

@@ -1,5 +1,5 @@
 -- METHOD 7.9, the theorems on the desk file by calendar month and on moving. They speak of the promises that the four entry points keep.
-use Prim.Native.Nat.{ℕ, min, _≤_}
+use Prim.Native.Nat.{ℕ, min}
 use mathlib.Core.Path.{_≡_, sym, ap, subst, _∙_}
 use mathlib.Core.List.{List, _++_}
 use native.Mathlib.Omega.{arith}
@@ -9,7 +9,7 @@ use lib.Seq.{take-at}
 use Rattle.refusals.specs.Sheet.{success}
 use Rattle.little_endian.specs.Bytes.{AreBytes}
 use Rattle.desk_forms.specs.declared.Form.the-variants.{Plain, Columns}
-use Rattle.desk_forms.specs.Header.{SeriesWithWeights, series, countIn, startIn}
+use Rattle.desk_forms.specs.Header.{SeriesWithWeights, series, countIn}
 use Rattle.desk_forms.specs.File.{fileLength, fileBytes, seriesIn}
 use Rattle.desk_forms.specs.ColumnsFile.{columnsLength, columnsBytes, firstYearIn, seriesInColumns}
 use Rattle.desk_forms.proofs.FormLaws.{meaning-whole, meaning-months}

@@ -1,7 +1,6 @@
 -- What the checks found, by the cases of the answer.
 use Prim.Native.Nat.{ℕ, min, _≤_}
 use mathlib.Core.Path.{_≡_, refl, subst}
-use mathlib.Core.Bool.{Bool}
 use mathlib.Core.List.{List}
 use native.Mathlib.Omega.{arith}
 use borrow.Author.Tests.{ltb-false}
@@ -12,7 +11,7 @@ use Rattle.desk_forms.specs.declared.Form.{Form}
 use Rattle.desk_forms.specs.Header.{countIn, lengthFor}
 use Rattle.desk_forms.specs.Forms.{frontOf}
 use Rattle.desk_checks.specs.declared.Checked.{Checked}
-use Rattle.desk_checks.specs.declared.Checked.the-variants.{Fits, Refused}
+use Rattle.desk_checks.specs.declared.Checked.the-variants.{Refused}
 use Rattle.desk_checks.specs.declared.Lent.the-variants.{Slices, Bytes}
 use Rattle.desk_checks.specs.Checked.{tooShort, FileSays, FileFits}
 use Rattle.desk_checks.proofs.CheckedLaws.{lent-fits}

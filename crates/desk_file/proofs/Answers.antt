@@ -1,13 +1,11 @@
 -- The answers of reading and writing, from what the checks found, and what then holds of the slices.
-use Prim.Native.Nat.{ℕ, min, _≤_}
+use Prim.Native.Nat.{ℕ, min}
 use mathlib.Core.Path.{_≡_, refl, sym, ap, subst, _∙_}
-use mathlib.Core.Bool.{Bool, false}
-use mathlib.Core.List.{List, _++_}
-use native.Mathlib.Omega.{arith}
-use borrow.Author.Tests.{ltb-false}
+use mathlib.Core.Bool.{Bool}
+use mathlib.Core.List.{List}
 use lib.Dec.{ltb}
 use lib.IntN.{ℤ}
-use lib.ListN.{length, drop}
+use lib.ListN.{length}
 use Rattle.refusals.specs.declared.Refusal.{Refusal}
 use Rattle.refusals.specs.declared.Verdict.{Verdict}
 use Rattle.refusals.specs.declared.Verdict.the-variants as verdict
@@ -18,7 +16,7 @@ use Rattle.refusals.proofs.CheckLaws.{stopped, none-applies, all-before}
 use Rattle.desk_forms.specs.declared.Form.the-variants.{Plain}
 use Rattle.desk_forms.specs.Header.{SeriesWithWeights, countIn, startIn}
 use Rattle.desk_forms.specs.Forms.{Sized}
-use Rattle.desk_forms.specs.File.{fileLength, fileBytes, seriesIn}
+use Rattle.desk_forms.specs.File.{fileLength}
 use Rattle.desk_forms.proofs.FormLaws.{meaning-months}
 use Rattle.desk_forms.proofs.AfterLaws.{front-filled, front-kept}
 use Rattle.desk_checks.specs.declared.Checked.{Checked}

@@ -1,6 +1,6 @@
 -- What a lent slice holds after an answer.
 use Prim.Native.Nat.{ℕ}
-use mathlib.Core.Path.{_≡_, sym, ap, _∙_}
+use mathlib.Core.Path.{_≡_, ap}
 use mathlib.Core.List.{List, _++_}
 use lib.ListN.{length, drop}
 use Rattle.refusals.specs.Sheet.{Answer, success, refusal}

@@ -11,12 +11,12 @@ use Rattle.little_endian.specs.Bytes.{AreBytes, FourBytes, bytesOf, numberAt, w
 use Rattle.little_endian.proofs.NumberLaws.{number-past, number-back, bytes-back}
 use Rattle.little_endian.proofs.SignedLaws.{four-bytes, word-fits, signed-word, word-signed}
 use Rattle.little_endian.proofs.ArrayLaws.{array-back, array-again}
-use Rattle.chart.specs.Chart.{Starts, monthOrder, orderOfT}
+use Rattle.chart.specs.Chart.{Starts, monthOrder}
 use Rattle.chart.proofs.Rearranging.{length-monthOrder, monthOrder-each, columns-back, columns-again}
 use Rattle.desk_arrays.specs.Arrays.{figuresBytes, weightsBytes, storedFigure, storedWeight, figuresAt, weightsAt}
 use Rattle.desk_forms.specs.declared.Form.{Form}
 use Rattle.desk_forms.specs.declared.Form.the-variants.{Plain, Columns}
-use Rattle.desk_forms.specs.Header.{SeriesWithWeights, series, Storable, header, countIn, startIn, periodIn, weightsStart, lengthFor}
+use Rattle.desk_forms.specs.Header.{SeriesWithWeights, Storable, header, countIn, startIn, periodIn, weightsStart, lengthFor}
 use Rattle.desk_forms.specs.File.{fileBytes}
 use Rattle.desk_forms.specs.ColumnsFile.{columnsBytes, firstYearIn}
 use Rattle.desk_forms.specs.Forms.{frontOf, monthsIn, startOf, frontBytes, yearOf, bytesIn, meaningOf, Sized}

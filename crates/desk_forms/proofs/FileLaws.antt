@@ -3,7 +3,7 @@ use Prim.Native.Nat.{ℕ, _+_, _*_, _<_, _≤_}
 use mathlib.Core.Path.{_≡_, refl, sym, ap, _∙_}
 use mathlib.Core.List.{List, _++_}
 use native.Mathlib.Omega.{arith}
-use lib.IntN.{ℤ, pos}
+use lib.IntN.{pos}
 use lib.ListN.{length, getD, drop, length-append}
 use lib.Seq.{sets, sets-eq}
 use Rattle.integers.proofs.FillingLaws.{at-tab}
@@ -12,20 +12,20 @@ use Rattle.refusals.specs.Limits.{monthsOfYear}
 use Rattle.little_endian.specs.Bytes.{AreBytes, bytesOf, numberAt, word, signed, array}
 use Rattle.little_endian.proofs.NumberLaws.{length-bytes, number-small}
 use Rattle.little_endian.proofs.SignedLaws.{word-signed}
-use Rattle.little_endian.proofs.ArrayLaws.{length-array, array-same}
+use Rattle.little_endian.proofs.ArrayLaws.{array-same}
 use Rattle.chart.specs.Chart.{Starts, monthOrder, orderOfT}
 use Rattle.chart.proofs.Rearranging.{length-monthOrder, length-orderOfT, monthOrder-pair, orderOfT-pair}
 use Rattle.chart.proofs.Loops.{one-starts, monthOrder-one}
 use Rattle.desk_arrays.specs.Arrays.{figuresBytes, weightsBytes, storedFigure, storedWeight, figuresAt, weightsAt}
 use Rattle.desk_arrays.specs.Contracts.{numbersAt}
-use Rattle.desk_arrays.proofs.ArrayLaws.{length-figuresAt, length-weightsAt, length-numbersAt, length-figuresBytes, length-weightsBytes}
+use Rattle.desk_arrays.proofs.ArrayLaws.{length-figuresAt, length-numbersAt, length-figuresBytes, length-weightsBytes}
 use Rattle.desk_forms.specs.declared.Form.{Form}
 use Rattle.desk_forms.specs.declared.Form.the-variants.{Plain, Columns}
-use Rattle.desk_forms.specs.Header.{SeriesWithWeights, header, countIn, startIn, periodIn, weightsStart, lengthFor}
+use Rattle.desk_forms.specs.Header.{SeriesWithWeights, header, startIn, periodIn, weightsStart, lengthFor}
 use Rattle.desk_forms.specs.File.{fileLength, fileBytes, FourAndSix, FileLength}
 use Rattle.desk_forms.specs.ColumnsFile.{columnsLength, columnsBytes, SixAndSix, ColumnsLength}
-use Rattle.desk_forms.specs.Forms.{frontOf, monthsIn, startOf, frontBytes, bytesIn, meaningOf, Sized, Fitting}
-use Rattle.desk_forms.proofs.FormLaws.{form-starts, form-figures, form-weights, meaning-start, meaning-months}
+use Rattle.desk_forms.specs.Forms.{frontOf, monthsIn, startOf, frontBytes, bytesIn, meaningOf, Sized}
+use Rattle.desk_forms.proofs.FormLaws.{form-starts, form-figures, form-weights}
 
 -- ---- the lengths: 436 and 438 bytes for 72 months
 pub four-and-six : FourAndSix

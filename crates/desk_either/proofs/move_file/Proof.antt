@@ -1,7 +1,6 @@
 -- `desk_either::move_file` meets its contract: what the checks found, and where the file fits, the same series in the other form.
 -- Assumes nothing.
-use mathlib.Core.Path.{sym, ap, subst, _∙_}
-use native.Mathlib.Omega.{arith}
+use mathlib.Core.Path.{subst}
 use borrow.Author.Needs.{needs}
 use lib.ListN.{length}
 use Rattle.desk_forms.specs.Header.{countIn}

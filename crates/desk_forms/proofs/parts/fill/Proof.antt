@@ -1,10 +1,7 @@
 -- `desk_forms::parts::fill` meets its contract: both arrays, in the order of the form, are what the file means.
 -- Assumes nothing.
-use mathlib.Core.Path.{ap, _∙_}
-use mathlib.Core.List.{List, _++_}
+use mathlib.Core.Path.{_∙_}
 use native.Mathlib.Omega.{arith}
-use lib.IntN.{ℤ}
-use lib.ListN.{drop}
 use borrow.Author.Needs.{needs}
 use Rattle.desk_forms.proofs.FormLaws.{figures-lie, weights-lie, form-figures, form-weights}
 use Rattle.desk_forms.proofs.parts.fill.Statement.{statement}

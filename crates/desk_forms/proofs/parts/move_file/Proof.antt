@@ -1,10 +1,12 @@
 -- `desk_forms::parts::move_file` meets its contract: what stands before the figures, and both arrays as numbers, from one order into the other.
 -- Assumes nothing.
-use mathlib.Core.Path.{_≡_, sym, ap, _∙_}
+use Prim.Native.Nat.{ℕ, _+_, _*_}
+use mathlib.Core.Path.{_≡_, sym, _∙_}
 use native.Mathlib.Omega.{arith}
 use borrow.Author.Needs.{needs}
 use Rattle.little_endian.specs.Bytes.{AreBytes}
-use Rattle.desk_forms.specs.Forms.{meaningOf}
+use Rattle.desk_arrays.specs.Contracts.{Lies}
+use Rattle.desk_forms.specs.Forms.{frontOf, monthsIn, startOf, meaningOf}
 use Rattle.desk_forms.proofs.FormLaws.{form-starts, figures-lie, weights-lie, figures-fit, weights-fit, meaning-start, meaning-months}
 use Rattle.desk_forms.proofs.FileLaws.{put-parts, moved-figures, moved-weights}
 use Rattle.desk_forms.proofs.parts.move_file.Statement.{statement}
@@ -13,6 +15,18 @@ use Rattle.desk_forms.proofs.parts.move_file.Tie as tie
 -- every lent byte is one
 are-bytes : (c : tie.After-shared-slice-known) → AreBytes (c .before .args .file .now)
 are-bytes c = record { each = λ i h. omega (arith, c .shared-slice-known .given i) }
+
+-- where the function began; what is so of the numbers of a form is so of what the small functions gave, for the form that is read and for the other
+abbrev began : tie.After-put-front → tie.After-shared-slice-known
+began h = h .before .before .before .before .before .before .before .before .before
+
+of-form : (h : tie.After-put-front) (P : ℕ → ℕ → ℕ → Type 0) → let a = began h .before .args in let s = h .before .before .before .before .before in
+    P (frontOf (a .form)) (monthsIn (a .form)) (startOf (a .form) (a .start)) → P (s .before .before .front-of .result) (s .before .months-in .result) (s .start-of .result)
+of-form h P x = let s = h .before .before .before .before .before in rw (s .before .before .front-of .ensures .0, s .before .months-in .ensures, s .start-of .ensures) x
+
+of-other : (h : tie.After-put-front) (P : ℕ → ℕ → ℕ → Type 0) → let a = began h .before .args in let s = h .before .before in
+    P (frontOf (a .other)) (monthsIn (a .other)) (startOf (a .other) (a .start)) → P (s .before .before .front-of2 .result) (s .before .months-in2 .result) (s .start-of2 .result)
+of-other h P x = let s = h .before .before in rw (s .before .before .front-of2 .ensures .0, s .before .months-in2 .ensures, s .start-of2 .ensures) x
 
 front-of-requires : tie.Need-front-of-requires
 front-of-requires c κs = search needs
@@ -38,18 +52,13 @@ put-front-requires c κs = search needs
 move-array-requires : tie.Need-move-array-requires
 move-array-requires c κs =
     let h = c .before .before .before in
-    let s2 = h .before .before in
-    let m2 = s2 .before in
-    let f2 = m2 .before in
-    let s = f2 .before in
-    let m = s .before in
-    let f = m .before in
-    let b = f .before .before .before in
+    let b = began h .before in
+    let a = b .args in
     let z = b .pre .0 in (
       omega arith,
-      rw (f .front-of .ensures .0, m .months-in .ensures, s .start-of .ensures) (figures-lie z),
-      rw (f2 .front-of2 .ensures .0, m2 .months-in2 .ensures, s2 .start-of2 .ensures)
-          (figures-fit (b .args .other) (b .args .start) (b .args .n) (z .inside) (z .least) (z .most) (omega (arith, b .pre .1, h .put-front .kept .0))),
+      of-form h (λ f p s. Lies (a .file .now) f 4 (a .n) p s) (figures-lie z),
+      of-other h (λ f q r. Lies (h .put-front .last .0) f 4 (a .n) q r)
+          (figures-fit (a .other) (a .start) (a .n) (z .inside) (z .least) (z .most) (omega (arith, b .pre .1, h .put-front .kept .0))),
     )
 
 mul-move-array : tie.Need-mul-move-array
@@ -68,19 +77,13 @@ move-array-requires-2 : tie.Need-move-array-requires-2
 move-array-requires-2 c κs =
     let g = c .before .before .before in
     let h = g .before .before .before .before in
-    let s2 = h .before .before in
-    let m2 = s2 .before in
-    let f2 = m2 .before in
-    let s = f2 .before in
-    let m = s .before in
-    let f = m .before in
-    let b = f .before .before .before in
+    let b = began h .before in
+    let a = b .args in
     let z = b .pre .0 in (
       omega arith,
-      rw (f .front-of .ensures .0, m .months-in .ensures, s .start-of .ensures) (weights-lie z),
-      rw (f2 .front-of2 .ensures .0, m2 .months-in2 .ensures, s2 .start-of2 .ensures)
-          (weights-fit (b .args .other) (b .args .start) (b .args .n) (z .inside) (z .least) (z .most)
-          (omega (arith, b .pre .1, h .put-front .kept .0, g .move-array .kept .1 .1 .1 .1 .1 .1 .0))),
+      of-form h (λ f p s. Lies (a .file .now) (f + 4 * a .n) 2 (a .n) p s) (weights-lie z),
+      of-other h (λ f q r. Lies (g .move-array .last .1 .1 .1 .1 .1 .1 .0) (f + 4 * a .n) 2 (a .n) q r)
+          (weights-fit (a .other) (a .start) (a .n) (z .inside) (z .least) (z .most) (omega (arith, b .pre .1, h .put-front .kept .0, g .move-array .kept .1 .1 .1 .1 .1 .1 .0))),
     )
 
 same-length : tie.Need-same-length

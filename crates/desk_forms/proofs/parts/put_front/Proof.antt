@@ -1,6 +1,5 @@
 -- `desk_forms::parts::put_front` meets its contract: the header, and by calendar month the first year behind it.
 -- Assumes nothing.
-use Prim.Native.Nat.{ℕ}
 use mathlib.Core.Path.{_≡_, sym, ap, _∙_}
 use native.Mathlib.Omega.{arith}
 use lib.Seq.{sets}
