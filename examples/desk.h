@@ -6,7 +6,7 @@
 #include "vepsjalm.h"
 
 #define MONTHS VEPSJALM_MOST_MONTHS
-#define FAILED 100 /* the exit status where the system fails to read or write: no refusal has this number */
+#define FAILED 100 /* the exit status for wrong use, or where the system fails to read or write: no refusal has this number */
 
 /* A byte more than the longest desk file of either form, so that a longer one is seen to be too long. */
 static uint8_t file[VEPSJALM_LONGEST_COLUMNS + 1];

@@ -39,7 +39,7 @@
 /* The limits. */
 #define VEPSJALM_LEAST_MONTHS 72       /* months of a series, n */
 #define VEPSJALM_MOST_MONTHS 600
-#define VEPSJALM_YEAR 12               /* the last start month, the first being 1; and the period of a desk file */
+#define VEPSJALM_YEAR 12               /* months of a year: the last start month, the first being 1; and the period of a desk file */
 #define VEPSJALM_LARGEST_FIGURE 200000 /* a figure's size, in units: -200,000 to 200,000 */
 #define VEPSJALM_UNIT 1000             /* thousandths (grains) in a unit; the tables are in thousandths */
 #define VEPSJALM_FULL_WEIGHT 1000      /* the weight of a month that counts in full; weights are 0 to 1,000 */
@@ -54,9 +54,9 @@
 #define VEPSJALM_LONGEST_COLUMNS VEPSJALM_COLUMNS_LENGTH(VEPSJALM_MOST_MONTHS)
 
 /* The refusal sheet. The words of vepsjalm_refusal_text say when each number is the answer; n is the number of figures in decomposing and
-   writing, the file's count in reading and moving. A file's header has 4 bytes, by calendar month 6, and 6 bytes for each month follow. The
-   place is t of the first such figure or weight for VEPSJALM_FIGURE_OUTSIDE and VEPSJALM_WEIGHT_ABOVE, where t is a month's place in the
-   series, counted from 0; by calendar month too, wherever in the file it stands. It is 0 for all others.
+   writing, the file's count in reading and moving. A file's header has 4 bytes, by calendar month 6 with the first year, and 6 bytes for
+   each month follow. The place is t of the first such figure or weight for VEPSJALM_FIGURE_OUTSIDE and VEPSJALM_WEIGHT_ABOVE, where t is a
+   month's place in the series, counted from 0; by calendar month too, wherever in the file it stands. It is 0 for all others.
 
    The checks, of which the first that applies is the answer, so that all figures are looked at before any weight:
 

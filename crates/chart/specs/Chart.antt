@@ -1,5 +1,6 @@
 -- METHOD 7.6: month order. The wall chart has a row for each year and a column for each of the p months of a year; a series that starts in month s
--- (1 to p) fills it row by row. Columns count from 0, which is January; months t and places in month order count from 0.
+-- (1 to p) fills it row by row. Columns count from 0, which is January; months t and places in month order count from 0. (`tab k f` is the list of f at 0 to
+-- k - 1, `sumN k f` their sum, `getD xs i d` the entry of a list at place i.)
 use Prim.Native.Nat.{ℕ, zero, suc, _+_, _-_, _*_, _/_, _%_, _≤_}
 use mathlib.Core.List.{List, [], _++_}
 use lib.ListN.{length, getD}

@@ -36,7 +36,7 @@ fn stored_weight(file: &[u8], from: usize, i: usize) -> u16
     little_endian::number_at(file, from + WEIGHT * i, WEIGHT) as u16
 }
 
-// The lower of t and the lowest bad month so far, where month t is bad too.
+// The lowest bad month so far, once month t has been looked at too.
 fn lower(bad: bool, t: usize, lowest: usize) -> usize
     ensures { λ r. ⌜ r ≡ cond bad (min t lowest) lowest ⌝ }
 {

@@ -24,7 +24,7 @@ use Rattle.desk_checks.specs.declared.Checked.the-variants as checked
 use Rattle.desk_checks.specs.Checked.{formChecks, FileFits, writtenChecks}
 use Rattle.desk_checks.proofs.CheckedLaws.{sized, file-fits, series-fits}
 use Rattle.desk_checks.proofs.Again.{written-length}
-use Rattle.desk_either.specs.Either.{ReadFits, ReadStops, ReadSays, WriteFits, WriteStops, WriteSays, MoveFits, MoveStops, MoveSays}
+use Rattle.desk_either.specs.Either.{ReadFits, ReadStops, ReadEither, WriteFits, WriteStops, WriteEither, MoveFits, MoveStops, MoveEither}
 use Rattle.desk_file.specs.declared.Writing.the-variants as writing
 use Rattle.desk_columns.specs.declared.ColumnsReading.the-variants as reading
 use Rattle.desk_columns.specs.declared.MovingBack.the-variants as back
@@ -60,17 +60,17 @@ module _ (file : List ℕ) (figuresRoom weightsRoom : ℕ) where
       }
 
 module _ {file : List ℕ} {figures₀ figures : List ℤ} {weights₀ weights : List ℕ} where
-  pub read-refused : {r : Checked} {q : Refusal} → ReadSays Columns 0 file figures₀ weights₀ r figures weights → r ≡ checked.Refused q
+  pub read-refused : {r : Checked} {q : Refusal} → ReadEither Columns 0 file figures₀ weights₀ r figures weights → r ≡ checked.Refused q
       → ReadColumnsDone file figures₀ weights₀ (reading.Refused q) figures weights
   read-refused {q = q} told e =
-      let t : ReadStops Columns 0 file figures₀ weights₀ q figures weights = subst (λ (r : Checked). ReadSays Columns 0 file figures₀ weights₀ r figures weights) e told in
+      let t : ReadStops Columns 0 file figures₀ weights₀ q figures weights = subst (λ (r : Checked). ReadEither Columns 0 file figures₀ weights₀ r figures weights) e told in
       let a = read-stops file (length figures₀) (length weights₀) (t .stops) in
       record { answer = a; figuresLeft = t .figuresLeft ∙ front-kept _ figures₀ a; weightsLeft = t .weightsLeft ∙ front-kept _ weights₀ a }
 
-  pub read-done : {r : Checked} {n start year : ℕ} → ReadSays Columns 0 file figures₀ weights₀ r figures weights → r ≡ checked.Fits n start year
+  pub read-done : {r : Checked} {n start year : ℕ} → ReadEither Columns 0 file figures₀ weights₀ r figures weights → r ≡ checked.Fits n start year
       → ReadColumnsDone file figures₀ weights₀ (reading.Series n start year) figures weights
   read-done {n = n} {start = start} {year = year} told e =
-      let t : ReadFits Columns 0 file figures₀ weights₀ n start year figures weights = subst (λ (r : Checked). ReadSays Columns 0 file figures₀ weights₀ r figures weights) e told in
+      let t : ReadFits Columns 0 file figures₀ weights₀ n start year figures weights = subst (λ (r : Checked). ReadEither Columns 0 file figures₀ weights₀ r figures weights) e told in
       let a = read-accepts file (length figures₀) (length weights₀) (t .fits) in
       let m = meaning-months (sized (t .fits)) in
       record { answer = a; figuresLeft = t .figuresLeft ∙ front-filled _ figures₀ a (m .0); weightsLeft = t .weightsLeft ∙ front-filled _ weights₀ a (m .1) }
@@ -91,14 +91,14 @@ module _ (year : ℕ) (s : SeriesWithWeights) (room : ℕ) where
   write-accepted {k} e = let h = all-before (writtenChecks Columns year s room) (success (columnsLength (length (s .figures)))) k e in (h .0, cc)
 
 module _ {year : ℕ} {s : SeriesWithWeights} {out₀ out : List ℕ} where
-  pub write-refused : {r : Verdict} {q : Refusal} → WriteSays Columns year s out₀ r out → r ≡ verdict.Refused q → WriteColumnsDone year s out₀ (writing.Refused q) out
+  pub write-refused : {r : Verdict} {q : Refusal} → WriteEither Columns year s out₀ r out → r ≡ verdict.Refused q → WriteColumnsDone year s out₀ (writing.Refused q) out
   write-refused {q = q} told e =
-      let t : WriteStops Columns year s out₀ q out = subst (λ (r : Verdict). WriteSays Columns year s out₀ r out) e told in
+      let t : WriteStops Columns year s out₀ q out = subst (λ (r : Verdict). WriteEither Columns year s out₀ r out) e told in
       let a = write-stops year s (length out₀) (t .stops) in
       record { answer = a; outLeft = t .outLeft ∙ front-kept _ out₀ a }
 
-  pub write-fits : {r : Verdict} → WriteSays Columns year s out₀ r out → r ≡ verdict.Fine → WriteFits Columns year s out₀ out
-  write-fits told e = subst (λ (r : Verdict). WriteSays Columns year s out₀ r out) e told
+  pub write-fits : {r : Verdict} → WriteEither Columns year s out₀ r out → r ≡ verdict.Fine → WriteFits Columns year s out₀ out
+  write-fits told e = subst (λ (r : Verdict). WriteEither Columns year s out₀ r out) e told
 
   pub write-done : {k : ℕ} → WriteFits Columns year s out₀ out → k ≡ columnsLength (length (s .figures)) → WriteColumnsDone year s out₀ (writing.Length k) out
   write-done t e =
@@ -128,14 +128,14 @@ module _ (file : List ℕ) (year room : ℕ) where
       (record { passed = h .0; count = refl; begins = refl; dated = refl }, cc)
 
 module _ {file : List ℕ} {year : ℕ} {out₀ out : List ℕ} where
-  pub forward-refused : {r : Checked} {q : Refusal} → MoveSays Plain year Columns file out₀ r out → r ≡ checked.Refused q → MovedForward file year out₀ (writing.Refused q) out
+  pub forward-refused : {r : Checked} {q : Refusal} → MoveEither Plain year Columns file out₀ r out → r ≡ checked.Refused q → MovedForward file year out₀ (writing.Refused q) out
   forward-refused {q = q} told e =
-      let t : MoveStops Plain year Columns file out₀ q out = subst (λ (r : Checked). MoveSays Plain year Columns file out₀ r out) e told in
+      let t : MoveStops Plain year Columns file out₀ q out = subst (λ (r : Checked). MoveEither Plain year Columns file out₀ r out) e told in
       let a = forward-stops file year (length out₀) (t .stops) in
       record { answer = a; outLeft = t .outLeft ∙ front-kept _ out₀ a }
 
-  pub forward-fits : {r : Checked} {n start y : ℕ} → MoveSays Plain year Columns file out₀ r out → r ≡ checked.Fits n start y → MoveFits Plain year Columns file out₀ n start y out
-  forward-fits told e = subst (λ (r : Checked). MoveSays Plain year Columns file out₀ r out) e told
+  pub forward-fits : {r : Checked} {n start y : ℕ} → MoveEither Plain year Columns file out₀ r out → r ≡ checked.Fits n start y → MoveFits Plain year Columns file out₀ n start y out
+  forward-fits told e = subst (λ (r : Checked). MoveEither Plain year Columns file out₀ r out) e told
 
   pub forward-done : {n start y k : ℕ} → MoveFits Plain year Columns file out₀ n start y out → k ≡ columnsLength n → MovedForward file year out₀ (writing.Length k) out
   forward-done {n} t e =
@@ -169,14 +169,14 @@ module _ (file : List ℕ) (room : ℕ) where
       (record { passed = h .0; count = refl; begins = refl; dated = sym (ap (λ (a : SizeAndYear). a .firstYear) same) }, sym (ap (λ (a : SizeAndYear). a .size) same))
 
 module _ {file out₀ out : List ℕ} where
-  pub back-refused : {r : Checked} {q : Refusal} → MoveSays Columns 0 Plain file out₀ r out → r ≡ checked.Refused q → MovedBack file out₀ (back.Refused q) out
+  pub back-refused : {r : Checked} {q : Refusal} → MoveEither Columns 0 Plain file out₀ r out → r ≡ checked.Refused q → MovedBack file out₀ (back.Refused q) out
   back-refused {q = q} told e =
-      let t : MoveStops Columns 0 Plain file out₀ q out = subst (λ (r : Checked). MoveSays Columns 0 Plain file out₀ r out) e told in
+      let t : MoveStops Columns 0 Plain file out₀ q out = subst (λ (r : Checked). MoveEither Columns 0 Plain file out₀ r out) e told in
       let a = back-stops file (length out₀) (t .stops) in
       record { answer = a; outLeft = t .outLeft ∙ front-kept _ out₀ a }
 
-  pub back-fits : {r : Checked} {n start year : ℕ} → MoveSays Columns 0 Plain file out₀ r out → r ≡ checked.Fits n start year → MoveFits Columns 0 Plain file out₀ n start year out
-  back-fits told e = subst (λ (r : Checked). MoveSays Columns 0 Plain file out₀ r out) e told
+  pub back-fits : {r : Checked} {n start year : ℕ} → MoveEither Columns 0 Plain file out₀ r out → r ≡ checked.Fits n start year → MoveFits Columns 0 Plain file out₀ n start year out
+  back-fits told e = subst (λ (r : Checked). MoveEither Columns 0 Plain file out₀ r out) e told
 
   pub back-done : {n start year k : ℕ} → MoveFits Columns 0 Plain file out₀ n start year out → k ≡ fileLength n → MovedBack file out₀ (back.Length k year) out
   back-done t e =

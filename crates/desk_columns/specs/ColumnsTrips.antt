@@ -85,7 +85,7 @@ ForwardBack = (file : List ℕ) (year : ℕ) (out₀ out : List ℕ) (q : Writin
     → MovedBack (take k out) back₀ r back
     → BackAgain file year back₀ r back
 
--- a file by calendar month that `from_columns` moved back, `to_columns` moves forward from its year into an output with room for it, byte for byte
+-- a file by calendar month that `from_columns` moved back, `to_columns` moves forward with its year into an output with room for it, byte for byte
 -- (back-forward)
 abbrev pub BackForward : Type 0
 BackForward = (file : List ℕ) (back₀ back : List ℕ) (q : MovingBack) (k year : ℕ) (out₀ out : List ℕ) (r : Writing)

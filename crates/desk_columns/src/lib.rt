@@ -21,7 +21,7 @@ pub enum MovingBack {
     Refused(Refusal),
 }
 
-// What is given as first year of a file that has its own.
+// Given as the first year where a file has its own, and not looked at.
 const ITS_OWN: u16 = 0;
 
 // Reads a desk file by calendar month: the first n places of both slices are filled, in order of t, the rest stays.

@@ -15,7 +15,7 @@ use Rattle.desk_checks.specs.declared.Checked.the-variants.{Refused}
 use Rattle.desk_checks.specs.declared.Lent.the-variants.{Slices, Bytes}
 use Rattle.desk_checks.specs.Checked.{tooShort, FileSays, FileFits}
 use Rattle.desk_checks.proofs.CheckedLaws.{lent-fits}
-use Rattle.desk_either.specs.Either.{ReadSays, MoveSays}
+use Rattle.desk_either.specs.Either.{ReadEither, MoveEither}
 
 -- both slices have room for the months
 pub slices-room : (form : Form) (given : ℕ) (file : List ℕ) (a b : ℕ) {n start year : ℕ} → FileFits form given (tooShort (Slices a b) (countIn file)) file n start year → n ≤ min a b
@@ -31,10 +31,10 @@ output-room form given other file k f =
 -- a refusal leaves what was lent
 module _ (form : Form) (given : ℕ) (file : List ℕ) where
   pub read-stopped : (figures : List ℤ) (weights : List ℕ) (r : Checked) {q : Refusal} → FileSays form given (tooShort (Slices (length figures) (length weights)) (countIn file)) file r → r ≡ Refused q
-      → ReadSays form given file figures weights r figures weights
+      → ReadEither form given file figures weights r figures weights
   read-stopped figures weights r told e =
       rw e (record { stops = subst (FileSays form given (tooShort (Slices (length figures) (length weights)) (countIn file)) file) e told; figuresLeft = refl; weightsLeft = refl })
 
   pub move-stopped : (other : Form) (out : List ℕ) (r : Checked) {q : Refusal} → FileSays form given (tooShort (Bytes other (length out)) (countIn file)) file r → r ≡ Refused q
-      → MoveSays form given other file out r out
+      → MoveEither form given other file out r out
   move-stopped other out r told e = rw e (record { stops = subst (FileSays form given (tooShort (Bytes other (length out)) (countIn file)) file) e told; outLeft = refl })

@@ -28,9 +28,9 @@ pub record ReadStops (form : Form) (given : ℕ) (file : List ℕ) (figures₀ :
   pub figuresLeft : figures ≡ figures₀
   pub weightsLeft : weights ≡ weights₀
 
-abbrev pub ReadSays : Form → ℕ → List ℕ → List ℤ → List ℕ → Checked → List ℤ → List ℕ → Type 0
-ReadSays form given file figures₀ weights₀ (Fits n start year) figures weights = ReadFits form given file figures₀ weights₀ n start year figures weights
-ReadSays form given file figures₀ weights₀ (Refused q) figures weights = ReadStops form given file figures₀ weights₀ q figures weights
+abbrev pub ReadEither : Form → ℕ → List ℕ → List ℤ → List ℕ → Checked → List ℤ → List ℕ → Type 0
+ReadEither form given file figures₀ weights₀ (Fits n start year) figures weights = ReadFits form given file figures₀ weights₀ n start year figures weights
+ReadEither form given file figures₀ weights₀ (Refused q) figures weights = ReadStops form given file figures₀ weights₀ q figures weights
 
 -- ---- writing: a success fills the front of the output with the file, a refusal leaves it
 pub record WriteFits (form : Form) (year : ℕ) (s : SeriesWithWeights) (out₀ out : List ℕ) : Type 0 where
@@ -41,9 +41,9 @@ pub record WriteStops (form : Form) (year : ℕ) (s : SeriesWithWeights) (out₀
   pub stops : Stopped q (writtenChecks form year s (length out₀))
   pub outLeft : out ≡ out₀
 
-abbrev pub WriteSays : Form → ℕ → SeriesWithWeights → List ℕ → Verdict → List ℕ → Type 0
-WriteSays form year s out₀ verdict.Fine out = WriteFits form year s out₀ out
-WriteSays form year s out₀ (verdict.Refused q) out = WriteStops form year s out₀ q out
+abbrev pub WriteEither : Form → ℕ → SeriesWithWeights → List ℕ → Verdict → List ℕ → Type 0
+WriteEither form year s out₀ verdict.Fine out = WriteFits form year s out₀ out
+WriteEither form year s out₀ (verdict.Refused q) out = WriteStops form year s out₀ q out
 
 -- ---- moving from a form into another: the same
 pub record MoveFits (form : Form) (given : ℕ) (other : Form) (file out₀ : List ℕ) (n start year : ℕ) (out : List ℕ) : Type 0 where
@@ -54,6 +54,6 @@ pub record MoveStops (form : Form) (given : ℕ) (other : Form) (file out₀ : L
   pub stops : Stopped q (formChecks form given (tooShort (Bytes other (length out₀)) (countIn file)) file)
   pub outLeft : out ≡ out₀
 
-abbrev pub MoveSays : Form → ℕ → Form → List ℕ → List ℕ → Checked → List ℕ → Type 0
-MoveSays form given other file out₀ (Fits n start year) out = MoveFits form given other file out₀ n start year out
-MoveSays form given other file out₀ (Refused q) out = MoveStops form given other file out₀ q out
+abbrev pub MoveEither : Form → ℕ → Form → List ℕ → List ℕ → Checked → List ℕ → Type 0
+MoveEither form given other file out₀ (Fits n start year) out = MoveFits form given other file out₀ n start year out
+MoveEither form given other file out₀ (Refused q) out = MoveStops form given other file out₀ q out

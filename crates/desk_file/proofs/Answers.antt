@@ -24,7 +24,7 @@ use Rattle.desk_checks.specs.declared.Checked.the-variants as checked
 use Rattle.desk_checks.specs.Checked.{formChecks, FileFits, writtenChecks}
 use Rattle.desk_checks.proofs.CheckedLaws.{sized, series-fits, undated-file, undated-series}
 use Rattle.desk_checks.proofs.Again.{written-length}
-use Rattle.desk_either.specs.Either.{ReadFits, ReadStops, ReadSays, WriteFits, WriteStops, WriteSays}
+use Rattle.desk_either.specs.Either.{ReadFits, ReadStops, ReadEither, WriteFits, WriteStops, WriteEither}
 use Rattle.desk_file.specs.declared.Reading.the-variants as reading
 use Rattle.desk_file.specs.declared.Writing.the-variants as writing
 use Rattle.desk_file.specs.ReadFile.{Accepted, accepted, readAnswer, ReadDone}
@@ -58,17 +58,17 @@ module _ (file : List ℕ) (figuresRoom weightsRoom : ℕ) where
   read-sized {n} {start} e = sized (read-accepted n start e)
 
 module _ {file : List ℕ} {figures₀ figures : List ℤ} {weights₀ weights : List ℕ} where
-  pub read-refused : {r : Checked} {q : Refusal} → ReadSays Plain earliestYear file figures₀ weights₀ r figures weights → r ≡ checked.Refused q
+  pub read-refused : {r : Checked} {q : Refusal} → ReadEither Plain earliestYear file figures₀ weights₀ r figures weights → r ≡ checked.Refused q
       → ReadDone file figures₀ weights₀ (reading.Refused q) figures weights
   read-refused {q = q} told e =
-      let t : ReadStops Plain earliestYear file figures₀ weights₀ q figures weights = subst (λ (r : Checked). ReadSays Plain earliestYear file figures₀ weights₀ r figures weights) e told in
+      let t : ReadStops Plain earliestYear file figures₀ weights₀ q figures weights = subst (λ (r : Checked). ReadEither Plain earliestYear file figures₀ weights₀ r figures weights) e told in
       let a = read-stops file (length figures₀) (length weights₀) (t .stops) in
       record { answer = a; figuresLeft = t .figuresLeft ∙ front-kept _ figures₀ a; weightsLeft = t .weightsLeft ∙ front-kept _ weights₀ a }
 
-  pub read-done : {r : Checked} {n start year : ℕ} → ReadSays Plain earliestYear file figures₀ weights₀ r figures weights → r ≡ checked.Fits n start year
+  pub read-done : {r : Checked} {n start year : ℕ} → ReadEither Plain earliestYear file figures₀ weights₀ r figures weights → r ≡ checked.Fits n start year
       → ReadDone file figures₀ weights₀ (reading.Series n start) figures weights
   read-done {n = n} {start = start} {year = year} told e =
-      let t : ReadFits Plain earliestYear file figures₀ weights₀ n start year figures weights = subst (λ (r : Checked). ReadSays Plain earliestYear file figures₀ weights₀ r figures weights) e told in
+      let t : ReadFits Plain earliestYear file figures₀ weights₀ n start year figures weights = subst (λ (r : Checked). ReadEither Plain earliestYear file figures₀ weights₀ r figures weights) e told in
       let f = t .fits in
       let a = read-accepts file (length figures₀) (length weights₀) (f .passed) (f .count) (f .begins) in
       let m = meaning-months (sized f) in
@@ -92,14 +92,14 @@ module _ (s : SeriesWithWeights) (room : ℕ) where
       (h .0, cc)
 
 module _ {s : SeriesWithWeights} {out₀ out : List ℕ} where
-  pub write-refused : {r : Verdict} {q : Refusal} → WriteSays Plain earliestYear s out₀ r out → r ≡ verdict.Refused q → WriteDone s out₀ (writing.Refused q) out
+  pub write-refused : {r : Verdict} {q : Refusal} → WriteEither Plain earliestYear s out₀ r out → r ≡ verdict.Refused q → WriteDone s out₀ (writing.Refused q) out
   write-refused {q = q} told e =
-      let t : WriteStops Plain earliestYear s out₀ q out = subst (λ (r : Verdict). WriteSays Plain earliestYear s out₀ r out) e told in
+      let t : WriteStops Plain earliestYear s out₀ q out = subst (λ (r : Verdict). WriteEither Plain earliestYear s out₀ r out) e told in
       let a = write-stops s (length out₀) (t .stops) in
       record { answer = a; outLeft = t .outLeft ∙ front-kept _ out₀ a }
 
-  pub write-fits : {r : Verdict} → WriteSays Plain earliestYear s out₀ r out → r ≡ verdict.Fine → WriteFits Plain earliestYear s out₀ out
-  write-fits told e = subst (λ (r : Verdict). WriteSays Plain earliestYear s out₀ r out) e told
+  pub write-fits : {r : Verdict} → WriteEither Plain earliestYear s out₀ r out → r ≡ verdict.Fine → WriteFits Plain earliestYear s out₀ out
+  write-fits told e = subst (λ (r : Verdict). WriteEither Plain earliestYear s out₀ r out) e told
 
   pub write-done : {k : ℕ} → WriteFits Plain earliestYear s out₀ out → k ≡ fileLength (length (s .figures)) → WriteDone s out₀ (writing.Length k) out
   write-done t e =

@@ -1,6 +1,6 @@
--- METHOD 7.4: the theorems on reading and writing together, whole; the names in brackets are those of their proofs, in proofs/RoundTrip.antt. They speak
--- of what `read` and `write` promise,
--- `ReadDone` and `WriteDone`; every lent slice of bytes is a byte string, `AreBytes` (the contract of little_endian::are_bytes).
+-- METHOD 7.4: the theorems on the plain desk file, whole; the names in brackets are those of their proofs, in proofs/RoundTrip.antt. Those on reading and
+-- writing speak of what `read` and `write` promise, `ReadDone` and `WriteDone`; every lent slice of bytes is a byte string, `AreBytes` (the contract of
+-- little_endian::are_bytes).
 use Prim.Native.Nat.{ℕ, _≤_}
 use mathlib.Core.Path.{_≡_}
 use mathlib.Core.List.{List, _++_}

@@ -7,7 +7,7 @@ use lib.ListN.{length, getD}
 use Rattle.integers.specs.Lists.{_‼_}
 use Rattle.little_endian.specs.Bytes.{FourBytes, bytesOf, numberAt}
 
--- n is the length of the figures
+-- a series with weights: its start month, its figures in units and its weights, in order of t; n is the number of figures
 pub record SeriesWithWeights : Type 0 where
   pub start : ℕ
   pub figures : List ℤ

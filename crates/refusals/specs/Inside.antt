@@ -17,7 +17,7 @@ figureInside figure = leb (natAbs figure) largestFigure
 unfoldable pub weightInside : ℕ → Bool
 weightInside weight = leb weight fullWeight
 
--- METHOD 7.5: the year of the last of n months, the first of which is a start month in the first year
+-- METHOD 7.5: the year of the last of n months that begin with the start month of the first year
 unfoldable pub lastYear : ℕ → ℕ → ℕ → ℕ
 lastYear firstYear start n = firstYear + (start - 1 + n - 1) / monthsOfYear
 

@@ -1,4 +1,4 @@
-// METHOD 8.1, the refusal sheet, and the limits that it speaks of (METHOD 1).
+// METHOD 8.1, the refusal sheet, and the limits that it speaks of (METHOD 1 and 7.5).
 ghost use mathlib.Core.Bool.{not};
 ghost use mathlib.Core.Path.{_≡_};
 ghost use Prim.Native.Nat.{_≤_};

@@ -1,2 +1,2 @@
--- METHOD 8.5: what callers in other languages are promised.
+-- METHOD 8.5: what callers of decomposing in other languages are promised (Numbers); those of the desk file: crate `desk_numbers`.
 pub mod Numbers
