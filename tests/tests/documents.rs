@@ -1,6 +1,7 @@
 //! What the documents show, beside the separately written program and the repository: README's sample, METHOD's rows and those that are stored, the
-//! runs of its part 3.9, its flooded January and its lengths of the final trend, the wrong programs that CONTRACTS names.
+//! runs of its part 3.9, its flooded January, its lengths of the final trend and its month order, the wrong programs that CONTRACTS names.
 
+use separate::columns::{by_month, last_year};
 use separate::decompose::decompose_fitting;
 use separate::desk::bytes_of;
 use separate::extremes::{neighbours, RunValue};
@@ -132,6 +133,23 @@ fn method_has_lengths_of_the_final_trend() {
         vec![i128::from(start), tables.noise.i.into(), tables.noise.c.into(), tables.trend_terms as i128]
     });
     assert_eq!(rows, worked);
+}
+
+#[test]
+fn method_has_month_order_and_years() {
+    let method = document("docs/METHOD.md");
+    let example = between(&method, "75 months from March: ", "\n");
+    let order = by_month(&(0..75).collect::<Vec<i128>>(), 3);
+    let shown = |month: &str, end: &str| numbers(between(example, month, end));
+    assert_eq!(shown("January has the months ", ", six of them"), [order[0], order[1], order[5]]);
+    assert_eq!(shown("February ", " at"), [order[6], order[7], order[11]]);
+    assert_eq!(shown("March ", ", seven,"), [order[12], order[13], order[18]]);
+    let april = shown("So month ", ".");
+    assert_eq!((order[*april.last().expect("a place") as usize], april.len()), (april[0], 5));
+    let years = numbers(between(&method, "From March ", ", and 12 goes"));
+    assert_eq!(last_year(3, years[0] as u16, years[1] as usize) as i128, years[2]);
+    let refused = numbers(between(&method, "is not 1 to 9999 (7.5) | 0 | ", " |"));
+    assert_eq!((last_year(2, refused[1] as u16, refused[0] as usize) as i128, refused[2]), (10_000, 10_000));
 }
 
 /// The edits of a crate's must-fail folder: crate/label, and whether a rule is edited.

@@ -14,7 +14,8 @@ pub fn read_columns(
     year: &mut u16,
     place: &mut usize,
 ) -> u8
-    ensures { λ r. ⌜ ReadColumnsNumbers (now (file .entry)) (now (figures .entry)) (now (weights .entry)) r (now (count .exit)) (now (start .exit)) (now (year .exit)) (now (place .exit)) (now (figures .exit)) (now (weights .exit)) ⌝ }
+    ensures { λ r. ⌜ ReadColumnsNumbers (now (file .entry)) (now (figures .entry)) (now (weights .entry))
+        r (now (count .exit)) (now (start .exit)) (now (year .exit)) (now (place .exit)) (now (figures .exit)) (now (weights .exit)) ⌝ }
 {
     match desk_columns::read_columns(file, figures, weights) {
         ColumnsReading::Series {

@@ -12,7 +12,8 @@ pub fn read(
     start: &mut u8,
     place: &mut usize,
 ) -> u8
-    ensures { λ r. ⌜ ReadNumbers (now (file .entry)) (now (figures .entry)) (now (weights .entry)) r (now (count .exit)) (now (start .exit)) (now (place .exit)) (now (figures .exit)) (now (weights .exit)) ⌝ }
+    ensures { λ r. ⌜ ReadNumbers (now (file .entry)) (now (figures .entry)) (now (weights .entry))
+        r (now (count .exit)) (now (start .exit)) (now (place .exit)) (now (figures .exit)) (now (weights .exit)) ⌝ }
 {
     match desk_file::read(file, figures, weights) {
         Reading::Series {

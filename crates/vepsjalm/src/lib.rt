@@ -42,7 +42,8 @@ pub extern "C" fn vepsjalm_read(
     start: &mut u8,
     place: &mut usize,
 ) -> u8
-    ensures { λ r. ⌜ ReadNumbers (now (file .entry)) (now (figures .entry)) (now (weights .entry)) r (now (count .exit)) (now (start .exit)) (now (place .exit)) (now (figures .exit)) (now (weights .exit)) ⌝ }
+    ensures { λ r. ⌜ ReadNumbers (now (file .entry)) (now (figures .entry)) (now (weights .entry))
+        r (now (count .exit)) (now (start .exit)) (now (place .exit)) (now (figures .exit)) (now (weights .exit)) ⌝ }
 {
     desk_numbers::read(file, figures, weights, count, start, place)
 }
@@ -71,7 +72,8 @@ pub extern "C" fn vepsjalm_read_columns(
     year: &mut u16,
     place: &mut usize,
 ) -> u8
-    ensures { λ r. ⌜ ReadColumnsNumbers (now (file .entry)) (now (figures .entry)) (now (weights .entry)) r (now (count .exit)) (now (start .exit)) (now (year .exit)) (now (place .exit)) (now (figures .exit)) (now (weights .exit)) ⌝ }
+    ensures { λ r. ⌜ ReadColumnsNumbers (now (file .entry)) (now (figures .entry)) (now (weights .entry))
+        r (now (count .exit)) (now (start .exit)) (now (year .exit)) (now (place .exit)) (now (figures .exit)) (now (weights .exit)) ⌝ }
 {
     desk_numbers::read_columns(file, figures, weights, count, start, year, place)
 }
