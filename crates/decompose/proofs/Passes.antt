@@ -1,5 +1,5 @@
 -- The three passes: what each leaves is the next table of the rules, and is what the next asks.
-use mathlib.Core.Path.{_≡_, ap, _∙_}
+use mathlib.Core.Path.{_≡_, sym, ap, _∙_}
 use mathlib.Core.List.{List}
 use Prim.Native.Nat.{ℕ, _≤_}
 use native.Mathlib.Omega.{arith}
@@ -11,12 +11,14 @@ use Rattle.series.specs.Operations.{minus, times}
 use Rattle.series.specs.Contracts.{widest, Minusable}
 use Rattle.series.proofs.Lengths.{length-minus, length-times}
 use Rattle.series.proofs.Largest.{larger, within-minus}
+use Rattle.rows.specs.declared.SeasonalFilter.{SeasonalFilter}
+use Rattle.rows.specs.declared.SeasonalFilter.the-variants.{ThreeByFive}
 use Rattle.rows.specs.declared.Terms.{Terms}
 use Rattle.rows.specs.FilterTables.{tableHenderson}
 use Rattle.filters.specs.Filter.{filter}
 use Rattle.filters.proofs.Lengths.{length-filter}
 use Rattle.filters.proofs.Light.{lightHenderson}
-use Rattle.steps.specs.Choices.{Choices, henderson}
+use Rattle.steps.specs.Choices.{none, Choices, henderson}
 use Rattle.steps.specs.Steps.{T2, S2}
 use Rattle.steps.proofs.Sound.{Sound, monthly-sound, plain-sound}
 use Rattle.steps.proofs.Largest as pass
@@ -27,14 +29,16 @@ use Rattle.extremes.specs.Weighing.{answerOf}
 use Rattle.extremes.specs.declared.Weighed.{Weighed}
 use Rattle.extremes.specs.declared.Weighed.the-variants.{Weights, EmptyGroup}
 use Rattle.extremes.proofs.WeighingLaws.{always-weighed}
-use Rattle.tables.specs.Tables.{choicesD, irregularOf, B1, B7, B10, B13, B17, B20, C1, C7, C10, C13, C17, C20, D1, finalTerms}
+use Rattle.tables.specs.Tables.{choicesD, irregularOf, B1, B7, B10, B13, B17, B20, C1, C7, C10, C13, C17, C20, D1, finalSeasonal, finalTerms}
 use Rattle.tables.specs.Bounds.{largestC1, largestC7, largestD7, largestD10, largestD12}
-use Rattle.tables.proofs.Sizes.{length-irregular, length-c1, length-c7, length-c13, length-d1, within-c1, within-c7, within-c13, within-d1}
+use Rattle.tables.proofs.Sizes.{length-irregular, length-c1, length-c7, length-c10, length-c13, length-d1, within-c1, within-c7, within-c10, within-c13, within-d1}
 use Rattle.trend_length.specs.TrendLength.{trendLength}
 use Rattle.trend_length.specs.Contracts.{Measurable}
+use Rattle.seasonal_choice.specs.SeasonalChoice.{chosenFilter}
+use Rattle.seasonal_choice.specs.Contracts.{Choosable}
 use Rattle.figures.specs.Contracts.{WithSeasonal}
 use Rattle.checks.specs.Contracts.{Workable}
-use Rattle.decompose.specs.Contracts.{Correctable, lessExtremes, ExtremesCorrected, CorrectedTo, LengthTables, Final, Finished}
+use Rattle.decompose.specs.Contracts.{Correctable, lessExtremes, ExtremesCorrected, CorrectedTo, ChoiceTables, Final, Finished}
 use Rattle.decompose.proofs.Grains.{within-grains}
 
 -- ---- passes B and C
@@ -73,7 +77,7 @@ module _ {start : ℕ} {f : List ℤ} (h : Workable start f) where
     })
 
     pub correctable-b : {s t : List ℤ} → PassBDone start x t s → Correctable start f s t
-    correctable-b d = correctable (monthly-sound _ _) (ap length e ∙ length-times unit f) (rw e (larger (within-grains (h .figures)) (omega arith))) (d .seasonal) (d .trend)
+    correctable-b d = correctable (monthly-sound _ _ _) (ap length e ∙ length-times unit f) (rw e (larger (within-grains (h .figures)) (omega arith))) (d .seasonal) (d .trend)
 
     pub to-c1 : {s t o i : List ℤ} {r : Weighed} {w : List ℕ} → PassBDone start x t s → ExtremesCorrected start (times unit f) s t r o i w → CorrectedTo (C1 start f) (B17 start f) r o w
     unfolding lessExtremes C1 B20 B17 B13 B10 B7 B1
@@ -90,15 +94,15 @@ module _ {start : ℕ} {f : List ℤ} (h : Workable start f) where
     pub series-c : PassSeries 6 x
     series-c = record { long = omega (arith, h .long, length-c); short = omega (arith, h .figures .short, length-c); small = larger small-c (omega arith) }
 
-    pub correctable-c : {s t : List ℤ} → PassDone x t s → Correctable start f s t
+    pub correctable-c : {s t : List ℤ} → PassDone ThreeByFive x t s → Correctable start f s t
     correctable-c d = correctable plain-sound length-c small-c (d .seasonal) (d .trend)
 
-    pub to-d1 : {s t o i : List ℤ} {r : Weighed} {w : List ℕ} → PassDone x t s → ExtremesCorrected start (times unit f) s t r o i w
-        → CorrectedTo (D1 start f) (C17 start f) r o w × LengthTables start f i t
+    pub to-d1 : {s t o i : List ℤ} {r : Weighed} {w : List ℕ} → PassDone ThreeByFive x t s → ExtremesCorrected start (times unit f) s t r o i w
+        → CorrectedTo (D1 start f) (C17 start f) r o w × ChoiceTables start f i t s
     unfolding lessExtremes D1 C20 C17 C13 C10 C7 B1
     to-d1 {s} {t} d k = (
       record { answered = k .answered ∙ weighed s t; series-is = k .series ∙ rw (d .seasonal, d .trend, e); weights-is = k .weights ∙ rw (d .seasonal, d .trend, e) },
-      record { irregular = k .irregular ∙ rw (d .seasonal, d .trend, e); trend = d .trend ∙ rw e },
+      record { irregular = k .irregular ∙ rw (d .seasonal, d .trend, e); trend = d .trend ∙ rw e; seasonal = d .seasonal ∙ rw e },
     )
 
   pub final : {x : List ℤ} → x ≡ D1 start f → Final f x
@@ -108,15 +112,31 @@ module _ {start : ℕ} {f : List ℤ} (h : Workable start f) where
   as-long : {b : ℕ} {x : List ℤ} → length x ≡ length f → AllWithin b x → b ≤ widest → Measurable 6 x
   as-long l k i = record { long = omega (arith, h .long); short = omega (arith, h .figures .short); small = larger k i }
 
-  pub measurable : {i t : List ℤ} → LengthTables start f i t → Measurable 6 i × Measurable 6 t
+  pub measurable : {i t s : List ℤ} → ChoiceTables start f i t s → Measurable 6 i × Measurable 6 t
   measurable q = rw (q .irregular, q .trend)
       (as-long (length-c13 start f) (within-c13 start (h .figures .small)) (omega arith), as-long (length-c7 start f) (within-c7 start (h .figures .small)) (omega arith))
 
-  pub final-terms : {m : Terms} {i t : List ℤ} → LengthTables start f i t → m ≡ trendLength 6 i t → m ≡ finalTerms start f
+  pub final-terms : {m : Terms} {i t s : List ℤ} → ChoiceTables start f i t s → m ≡ trendLength 6 i t → m ≡ finalTerms start f
   unfolding finalTerms
   final-terms q e = e ∙ rw (q .irregular, q .trend)
 
--- ---- pass D
+  -- and those by which the final seasonal filter is
+  pub choosable : {i t s : List ℤ} → ChoiceTables start f i t s → Choosable monthsOfYear i s
+  choosable q = rw (q .irregular, q .seasonal) (record {
+    both = record {
+      short = omega (arith, h .figures .short, length-c13 start f);
+      same = length-c10 start f ∙ sym (length-c13 start f);
+      irregular-small = larger (within-c13 start (h .figures .small)) (omega arith);
+      seasonal-small = larger (within-c10 start (h .figures .small)) (omega arith);
+    };
+    long = omega (arith, h .long, length-c13 start f);
+  })
+
+  pub final-seasonal : {g : SeasonalFilter} {i t s : List ℤ} → ChoiceTables start f i t s → g ≡ chosenFilter monthsOfYear i s → g ≡ finalSeasonal start f
+  unfolding finalSeasonal
+  final-seasonal q e = e ∙ rw (q .irregular, q .seasonal)
+
+-- ---- pass D, by the seasonal filter g
 module _ {f x : List ℤ} (h : Final f x) where
   pub series : PassSeries 6 x
   series = record {
@@ -125,36 +145,36 @@ module _ {f x : List ℤ} (h : Final f x) where
     small = larger (h .x-small) (omega arith);
   }
 
-  s2-small : AllWithin largestD10 (S2 choicesD x)
-  s2-small = pass.s2 plain-sound (h .x-small) largestD7 (omega arith)
+  s2-small : (g : SeasonalFilter) → AllWithin largestD10 (S2 (choicesD g) x)
+  s2-small g = pass.s2 (monthly-sound g none none) (h .x-small) largestD7 (omega arith)
 
-  pub adjustable : {s : List ℤ} → s ≡ S2 choicesD x → Adjustable x s
-  adjustable e = rw e (record {
+  pub adjustable : (g : SeasonalFilter) {s : List ℤ} → s ≡ S2 (choicesD g) x → Adjustable x s
+  adjustable g e = rw e (record {
     long = omega (arith, h .long, h .x-long);
     both = record {
       short = omega (arith, h .figures .short, h .x-long);
-      long = length-s2 choicesD x;
+      long = length-s2 (choicesD g) x;
       left = larger (h .x-small) (omega arith);
-      right = larger s2-small (omega arith);
+      right = larger (s2-small g) (omega arith);
     };
-    less = larger (within-minus (h .x-small) s2-small) (omega arith);
+    less = larger (within-minus (h .x-small) (s2-small g)) (omega arith);
   })
 
-  pub beside : {s : List ℤ} → s ≡ S2 choicesD x → WithSeasonal f s
-  beside e = rw e (record { figures = h .figures; long = length-s2 choicesD x ∙ h .x-long; small = larger s2-small (omega arith) })
+  pub beside : (g : SeasonalFilter) {s : List ℤ} → s ≡ S2 (choicesD g) x → WithSeasonal f s
+  beside g e = rw e (record { figures = h .figures; long = length-s2 (choicesD g) x ∙ h .x-long; small = larger (s2-small g) (omega arith) })
 
-  pub minusable : (terms : Terms) {s a t : List ℤ} → s ≡ S2 choicesD x → a ≡ minus (times unit f) s → t ≡ filter (tableHenderson terms) (minus x s) → Minusable a t
-  minusable terms e i j = rw (i, j, e) (record {
-    short = omega (arith, length-minus (times unit f) (S2 choicesD x), length-times unit f, h .figures .short);
-    long = omega (arith, length-minus (times unit f) (S2 choicesD x), length-times unit f, length-filter (tableHenderson terms) (minus x (S2 choicesD x)), length-minus x (S2 choicesD x), h .x-long);
-    left = larger (within-minus (within-grains (h .figures)) s2-small) (omega arith);
-    right = larger (pass.within-norm (within-minus (h .x-small) s2-small) (henderson terms) 1440 largestD12 (lightHenderson terms) (omega arith)) (omega arith);
+  pub minusable : (g : SeasonalFilter) (terms : Terms) {s a t : List ℤ} → s ≡ S2 (choicesD g) x → a ≡ minus (times unit f) s → t ≡ filter (tableHenderson terms) (minus x s) → Minusable a t
+  minusable g terms e i j = rw (i, j, e) (record {
+    short = omega (arith, length-minus (times unit f) (S2 (choicesD g) x), length-times unit f, h .figures .short);
+    long = omega (arith, length-minus (times unit f) (S2 (choicesD g) x), length-times unit f, length-filter (tableHenderson terms) (minus x (S2 (choicesD g) x)), length-minus x (S2 (choicesD g) x), h .x-long);
+    left = larger (within-minus (within-grains (h .figures)) (s2-small g)) (omega arith);
+    right = larger (pass.within-norm (within-minus (h .x-small) (s2-small g)) (henderson terms) 1440 largestD12 (lightHenderson terms) (omega arith)) (omega arith);
   })
 
-pub finished : {terms : Terms} {b1 x s a t d : List ℤ} → s ≡ S2 choicesD x → a ≡ minus b1 s → t ≡ filter (tableHenderson terms) (minus x s) → d ≡ minus a t
-    → Finished terms b1 x s a t d
+pub finished : {g : SeasonalFilter} {terms : Terms} {b1 x s a t d : List ℤ} → s ≡ S2 (choicesD g) x → a ≡ minus b1 s → t ≡ filter (tableHenderson terms) (minus x s) → d ≡ minus a t
+    → Finished g terms b1 x s a t d
 finished e i j k = record { seasonal = e; adjusted = i ∙ rw e; trend = j ∙ rw e; irregular = k ∙ rw (i, j, e) }
 
--- by another name of the length
-pub with-terms : {m terms : Terms} {b1 x s a t d : List ℤ} → m ≡ terms → Finished m b1 x s a t d → Finished terms b1 x s a t d
-with-terms e h = rw e at h
+-- by another name of the filter and the length
+pub by-names : {k g : SeasonalFilter} {m terms : Terms} {b1 x s a t d : List ℤ} → k ≡ g → m ≡ terms → Finished k m b1 x s a t d → Finished g terms b1 x s a t d
+by-names e i h = rw (e, i) at h

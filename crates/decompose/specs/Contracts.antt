@@ -8,6 +8,7 @@ use Rattle.integers.specs.Lists.{AllWithin}
 use Rattle.refusals.specs.Limits.{unit, leastMonths, monthsOfYear}
 use Rattle.series.specs.Operations.{minus, times}
 use Rattle.series.specs.Contracts.{Figures}
+use Rattle.rows.specs.declared.SeasonalFilter.{SeasonalFilter}
 use Rattle.rows.specs.declared.Terms.{Terms}
 use Rattle.rows.specs.FilterTables.{tableHenderson}
 use Rattle.filters.specs.Filter.{filter}
@@ -15,7 +16,7 @@ use Rattle.steps.specs.Steps.{S2}
 use Rattle.extremes.specs.Weighing.{weightsOf, answerOf}
 use Rattle.extremes.specs.declared.Weighed.{Weighed}
 use Rattle.extremes.specs.declared.Weighed.the-variants.{Weights}
-use Rattle.tables.specs.Tables.{choicesD, irregularOf, corrections, B17, C7, C13, C17, D1, finalTerms}
+use Rattle.tables.specs.Tables.{choicesD, irregularOf, corrections, B17, C7, C10, C13, C17, D1, finalSeasonal, finalTerms}
 use Rattle.tables.specs.Bounds.{largestC7, largestC10, largestD1}
 use Rattle.checks.specs.Answer.{scratchFor}
 use Rattle.checks.specs.Contracts.{Workable}
@@ -62,16 +63,17 @@ pub record CorrectedTo (series : List ℤ) (weights : List ℕ) (r : Weighed) (x
   pub series-is : x ≡ series
   pub weights-is : w ≡ weights
 
--- the tables by which the length of the final trend is chosen
-pub record LengthTables (start : ℕ) (f i t : List ℤ) : Type 0 where
+-- the tables by which the final seasonal filter and the length of the final trend are chosen
+pub record ChoiceTables (start : ℕ) (f i t s : List ℤ) : Type 0 where
   pub irregular : i ≡ C13 start f
   pub trend : t ≡ C7 start f
+  pub seasonal : s ≡ C10 start f
 
 -- what passes B and C leave
-pub record Corrected (start : ℕ) (f : List ℤ) (r : Weighed) (x i t : List ℤ) (b17 c17 : List ℕ) : Type 0 where
+pub record Corrected (start : ℕ) (f : List ℤ) (r : Weighed) (x i t s : List ℤ) (b17 c17 : List ℕ) : Type 0 where
   pub answered : r ≡ Weights
   pub series : x ≡ D1 start f
-  pub length-tables : LengthTables start f i t
+  pub choice-tables : ChoiceTables start f i t s
   pub b17-is : b17 ≡ B17 start f
   pub c17-is : c17 ≡ C17 start f
 
@@ -82,17 +84,17 @@ pub record Final (f x : List ℤ) : Type 0 where
   pub x-long : length x ≡ length f
   pub x-small : AllWithin largestD1 x
 
--- what pass D on x leaves, the final trend's filter having so many terms
-pub record Finished (terms : Terms) (b1 x d10 d11 d12 d13 : List ℤ) : Type 0 where
-  pub seasonal : d10 ≡ S2 choicesD x
-  pub adjusted : d11 ≡ minus b1 (S2 choicesD x)
-  pub trend : d12 ≡ filter (tableHenderson terms) (minus x (S2 choicesD x))
-  pub irregular : d13 ≡ minus (minus b1 (S2 choicesD x)) (filter (tableHenderson terms) (minus x (S2 choicesD x)))
+-- what pass D on x leaves, with the seasonal filter g, the final trend's filter having so many terms
+pub record Finished (g : SeasonalFilter) (terms : Terms) (b1 x d10 d11 d12 d13 : List ℤ) : Type 0 where
+  pub seasonal : d10 ≡ S2 (choicesD g) x
+  pub adjusted : d11 ≡ minus b1 (S2 (choicesD g) x)
+  pub trend : d12 ≡ filter (tableHenderson terms) (minus x (S2 (choicesD g) x))
+  pub irregular : d13 ≡ minus (minus b1 (S2 (choicesD g) x)) (filter (tableHenderson terms) (minus x (S2 (choicesD g) x)))
 
 -- what the three passes leave
 pub record PassesDone (start : ℕ) (f : List ℤ) (r : Decomposed) (d10 d11 d12 d13 : List ℤ) (b17 c17 : List ℕ) (scratch₀ scratch : List ℤ) : Type 0 where
   pub answered : r ≡ Tables
-  pub tables : Finished (finalTerms start f) (times unit f) (D1 start f) d10 d11 d12 d13
+  pub tables : Finished (finalSeasonal start f) (finalTerms start f) (times unit f) (D1 start f) d10 d11 d12 d13
   pub b17-is : b17 ≡ B17 start f
   pub c17-is : c17 ≡ C17 start f
   pub scratch-is : scratch ≡ zeroed (length f) scratch₀

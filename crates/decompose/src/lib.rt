@@ -7,12 +7,13 @@ ghost use Rattle.series.specs.Operations.{times};
 ghost use Rattle.tables.specs.Tables.{B17, C1, C17, D1};
 ghost use Rattle.checks.specs.Answer.{scratchFor};
 ghost use Rattle.checks.specs.Contracts.{Workable};
-ghost use Rattle.decompose.specs.Contracts.{Correctable, WorkSlices, WeightSlices, Scratch, ExtremesCorrected, CorrectedTo, LengthTables, Corrected, Final, Finished, PassesDone};
+ghost use Rattle.decompose.specs.Contracts.{Correctable, WorkSlices, WeightSlices, Scratch, ExtremesCorrected, CorrectedTo, ChoiceTables, Corrected, Final, Finished, PassesDone};
 ghost use Rattle.decompose.specs.Promise.{zeroed, Promise};
 use checks::Lengths;
 use extremes::Weighed;
 use refusals::Refusal;
 use refusals::Verdict;
+use rows::SeasonalFilter;
 use rows::Terms;
 
 pub enum Decomposed {
@@ -21,7 +22,7 @@ pub enum Decomposed {
 }
 
 // METHOD 4.1 and 4.2: the irregular that a pass leaves in b, s being its seasonal and t its trend, and its weights in w; x becomes B1 less the
-// corrections. a and s are then work space.
+// corrections, and is work space before. a is work space; s and t stay.
 fn correct_extremes(
     figures: &[i32],
     start: u8,
@@ -29,7 +30,7 @@ fn correct_extremes(
     a: &mut [i64],
     b: &mut [i64],
     t: &[i64],
-    s: &mut [i64],
+    s: &[i64],
     w: &mut [u16],
 ) -> Weighed
     requires { ⌜ Correctable start (now figures) (now s) (now t) × (length (now x) ≡ length (now figures)) × (length (now a) ≡ length (now figures))
@@ -39,7 +40,7 @@ fn correct_extremes(
 {
     figures::adjusted(figures, s, a);
     series::minus(a, t, b);
-    let weighed = extremes::weights(b, start, refusals::MONTHS_OF_YEAR as u8, a, s, w);
+    let weighed = extremes::weights(b, start, refusals::MONTHS_OF_YEAR as u8, a, x, w);
     figures::corrected(figures, b, w, x);
     weighed
 }
@@ -64,7 +65,7 @@ fn to_c1(
     correct_extremes(figures, start, x, a, b, t, s, b17)
 }
 
-// METHOD 4.2: pass C on C1, which x holds. D1 in x, C13 in b, C7 in t, and the weights C17; a and s are work space.
+// METHOD 4.2: pass C on C1, which x holds. D1 in x, C13 in b, C7 in t, C10 in s, and the weights C17; a is work space.
 fn to_d1(
     figures: &[i32],
     start: u8,
@@ -78,13 +79,13 @@ fn to_d1(
     requires { ⌜ Workable start (now figures) × WorkSlices (now figures) (now a) (now b) (now t) (now s)
         × (now x ≡ C1 start (now figures)) × (length (now c17) ≡ length (now figures)) ⌝ }
     ensures { λ r. ⌜ CorrectedTo (D1 start (now (figures .entry))) (C17 start (now (figures .entry))) r (now (x .exit)) (now (c17 .exit))
-        × LengthTables start (now (figures .entry)) (now (b .exit)) (now (t .exit)) ⌝ }
+        × ChoiceTables start (now (figures .entry)) (now (b .exit)) (now (t .exit)) (now (s .exit)) ⌝ }
 {
-    pass::one_pass(x, a, b, t, s);
+    pass::one_pass(SeasonalFilter::ThreeByFive, x, a, b, t, s);
     correct_extremes(figures, start, x, a, b, t, s, c17)
 }
 
-// D1 in x, C13 in b, C7 in t, and the weights B17 and C17; a and s are work space.
+// D1 in x, C13 in b, C7 in t, C10 in s, and the weights B17 and C17; a is work space.
 fn corrected_series(
     figures: &[i32],
     start: u8,
@@ -98,7 +99,7 @@ fn corrected_series(
 ) -> Weighed
     requires { ⌜ Workable start (now figures) × WorkSlices (now figures) (now a) (now b) (now t) (now s)
         × (length (now x) ≡ length (now figures)) × WeightSlices (now figures) (now b17) (now c17) ⌝ }
-    ensures { λ r. ⌜ Corrected start (now (figures .entry)) r (now (x .exit)) (now (b .exit)) (now (t .exit)) (now (b17 .exit)) (now (c17 .exit)) ⌝ }
+    ensures { λ r. ⌜ Corrected start (now (figures .entry)) r (now (x .exit)) (now (b .exit)) (now (t .exit)) (now (s .exit)) (now (b17 .exit)) (now (c17 .exit)) ⌝ }
 {
     let first = to_c1(figures, start, x, a, b, t, s, b17);
     let Weighed::Weights = first else {
@@ -107,10 +108,11 @@ fn corrected_series(
     to_d1(figures, start, x, a, b, t, s, c17)
 }
 
-// METHOD 4.3: D10 to D13 from the figures and D1, which is x, the final trend's filter having so many terms.
+// METHOD 4.3: D10 to D13 from the figures and D1, which is x, by a seasonal filter, the final trend's filter having so many terms.
 fn final_tables(
     figures: &[i32],
     x: &[i64],
+    chosen: SeasonalFilter,
     terms: Terms,
     d10: &mut [i64],
     d11: &mut [i64],
@@ -118,10 +120,10 @@ fn final_tables(
     d13: &mut [i64],
 )
     requires { ⌜ Final (now figures) (now x) × WorkSlices (now figures) (now d10) (now d11) (now d12) (now d13) ⌝ }
-    ensures { λ _. ⌜ Finished terms (times unit (now (figures .entry))) (now (x .entry))
+    ensures { λ _. ⌜ Finished chosen terms (times unit (now (figures .entry))) (now (x .entry))
         (now (d10 .exit)) (now (d11 .exit)) (now (d12 .exit)) (now (d13 .exit)) ⌝ }
 {
-    pass::one_pass(x, d11, d13, d12, d10);
+    pass::one_pass(chosen, x, d11, d13, d12, d10);
     pass::trend(terms, x, d10, d11, d12);
     figures::adjusted(figures, d10, d11);
     series::minus(d11, d12, d13);
@@ -168,8 +170,9 @@ fn three_passes(
         clear(scratch, n);
         return Decomposed::Refused(Refusal::EmptyGroup);
     };
+    let chosen = seasonal_choice::chosen_filter(d11, d13);
     let terms = trend_length::trend_length(d11, d12);
-    final_tables(figures, &scratch[..n], terms, d10, d11, d12, d13);
+    final_tables(figures, &scratch[..n], chosen, terms, d10, d11, d12, d13);
     clear(scratch, n);
     Decomposed::Tables
 }

@@ -10,9 +10,9 @@ use lib.IntN.{ℤ, _*ℤ_}
 use Rattle.integers.specs.Lists.{_‼_}
 use Rattle.integers.specs.Rounding.{toGrain}
 use Rattle.integers.proofs.SumLaws.{sum-same}
-use Rattle.rows.specs.Table.{Table, rowWeight, denominator}
+use Rattle.rows.specs.Table.{Table, rowFor, rowWeight, denominator}
 use Rattle.filters.specs.Contracts.{Filterable, FilterableMonths}
-use Rattle.filters.specs.Filter.{dot, rowFor, weightedSum, byRow, earlier, later, valueAt}
+use Rattle.filters.specs.Filter.{dot, weightedSum, byRow, earlier, later, valueAt}
 
 -- so many whole steps fit into d
 pub steps-fit : (d step side : ℕ) → min (d / step) side * step ≤ d

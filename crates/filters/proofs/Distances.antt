@@ -15,9 +15,9 @@ use Rattle.integers.specs.Sums.{wsum, norm}
 use Rattle.integers.proofs.SumLaws.{wsum-near}
 use Rattle.series.specs.Distance.{Close}
 use Rattle.series.proofs.Distances.{close-tab}
-use Rattle.rows.specs.Table.{Table, rowWeight, denominator}
+use Rattle.rows.specs.Table.{Table, rowFor, rowWeight, denominator}
 use Rattle.rows.proofs.RowTests.{Fair}
-use Rattle.filters.specs.Filter.{dot, rowFor, weightedSum, byRow, exactByRow, earlier, later, valueAt, exactAt, filter, exact, reach, inside, exactInside}
+use Rattle.filters.specs.Filter.{dot, weightedSum, byRow, exactByRow, earlier, later, valueAt, exactAt, filter, exact, reach, inside, exactInside}
 use Rattle.filters.proofs.Light.{few-earlier, few-later, Light}
 
 -- ---- one place of a filter. R is the rounded value of S / d, and E the exact sum

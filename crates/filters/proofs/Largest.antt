@@ -12,9 +12,9 @@ use Rattle.integers.specs.Rounding.{toGrain}
 use Rattle.integers.proofs.RoundingLaws.{toGrain-size}
 use Rattle.integers.specs.Sums.{wsum, norm}
 use Rattle.integers.proofs.SumLaws.{wsum-within}
-use Rattle.rows.specs.Table.{Table, rowWeight, denominator}
+use Rattle.rows.specs.Table.{Table, rowFor, rowWeight, denominator}
 use Rattle.rows.proofs.RowTests.{Fair}
-use Rattle.filters.specs.Filter.{dot, rowFor, weightedSum, byRow, earlier, later, valueAt, filter, reach, inside}
+use Rattle.filters.specs.Filter.{dot, weightedSum, byRow, earlier, later, valueAt, filter, reach, inside}
 use Rattle.filters.proofs.Light.{few-earlier, few-later, Light}
 
 -- a weighted sum of numbers within b, with weights that sum to at most N thousandths of d, is within c times d

@@ -4,14 +4,15 @@ use native.Mathlib.Nat.{le-trans, mul-le-mul-right}
 use native.Mathlib.Omega.{arith}
 use Rattle.integers.specs.Sums.{norm}
 use Rattle.integers.proofs.SumLaws.{sumN-upto}
-use Rattle.rows.specs.Table.{Table, rowWeight, denominator}
+use Rattle.rows.specs.Table.{Table, rowFor, rowCount, rowWeight, denominator}
+use Rattle.rows.specs.declared.SeasonalFilter.{SeasonalFilter}
 use Rattle.rows.specs.declared.Terms.{Terms}
 use Rattle.rows.specs.declared.Terms.the-variants.{Thirteen}
-use Rattle.rows.specs.FilterTables.{table2x12, table3x3, table3x5, tableHenderson, overHenderson}
+use Rattle.rows.specs.FilterTables.{table2x12, tableSeasonal, overSeasonal, tableHenderson, overHenderson}
 use Rattle.rows.proofs.RowTests.{all-at, fair, AllFair, Fair, fair-row}
 use Rattle.rows.proofs.Means.{mean, AllMeans, mean-row}
-use Rattle.rows.proofs.Rules.{means2x12, means3x3, means3x5, fairHenderson, fairThirteen}
-use Rattle.filters.specs.Filter.{rowFor, earlier, later}
+use Rattle.rows.proofs.Rules.{means2x12, meansSeasonal, fairHenderson, fairThirteen}
+use Rattle.filters.specs.Filter.{earlier, later}
 
 -- no more values are counted than a row takes
 pub few-earlier : (F : Table) (first t : ℕ) → earlier F first t ≤ F .side
@@ -23,15 +24,15 @@ unfolding later
 few-later F past t = omega arith
 
 -- the row for b values before and a after is one of the table's
-pub row-in : (F : Table) (b a : ℕ) → b ≤ F .side → rowFor F b a < 2 * F .side + 1
-unfolding rowFor
-row-in F b a l = omega arith
+pub row-in : (F : Table) (b a : ℕ) → b ≤ F .side → rowFor F b a < rowCount F
+unfolding rowFor rowCount
+row-in F b a l = omega (arith, mul-le-mul-right (F .rowStep) l)
 
 -- every row is so: what the laws of a filter ask
 pub record Light (L N : ℕ) (F : Table) : Type 0 where
   pub at : (b a : ℕ) → b ≤ F .side → a ≤ F .side → Fair L N (denominator F (rowFor F b a)) (norm (b + 1 + a) (rowWeight F (rowFor F b a)))
 
-pub light-rows : (F : Table) (L N : ℕ) → ((r : ℕ) → r < 2 * F .side + 1 → Fair L N (denominator F r) (norm (2 * F .side + 1) (rowWeight F r))) → Light L N F
+pub light-rows : (F : Table) (L N : ℕ) → ((r : ℕ) → r < rowCount F → Fair L N (denominator F r) (norm (2 * F .side + 1) (rowWeight F r))) → Light L N F
 light-rows F L N h = record {
   at = λ b a i j. let f = h (rowFor F b a) (row-in F b a i) in
       record { positive = f .positive; divides = f .divides; light = le-trans (mul-le-mul-right 1000 (sumN-upto (b + 1 + a) (2 * F .side + 1) _ (omega arith))) (f .light) };
@@ -39,20 +40,17 @@ light-rows F L N h = record {
 
 -- by the test of a norm, and by that of non-negative weights that sum to one
 pub all-light : (F : Table) (L N : ℕ) → AllFair L N F → Light L N F
-all-light F L N ok = light-rows F L N (λ r l. fair-row F L N r (all-at (2 * F .side + 1) (fair L N F) ok r l))
+all-light F L N ok = light-rows F L N (λ r l. fair-row F L N r (all-at (rowCount F) (fair L N F) ok r l))
 
 pub all-means : (F : Table) (L : ℕ) → AllMeans L F → Light L 1000 F
-all-means F L ok = light-rows F L 1000 (λ r l. mean-row F L r (all-at (2 * F .side + 1) (mean L F) ok r l))
+all-means F L ok = light-rows F L 1000 (λ r l. mean-row F L r (all-at (rowCount F) (mean L F) ok r l))
 
 -- ---- the filters
 pub light2x12 : Light 24 1000 table2x12
 light2x12 = all-means table2x12 24 means2x12
 
-pub light3x3 : Light 27 1000 table3x3
-light3x3 = all-means table3x3 27 means3x3
-
-pub light3x5 : Light 60 1000 table3x5
-light3x5 = all-means table3x5 60 means3x5
+pub lightSeasonal : (f : SeasonalFilter) → Light overSeasonal 1000 (tableSeasonal f)
+lightSeasonal f = all-means (tableSeasonal f) overSeasonal (meansSeasonal f)
 
 pub lightHenderson : (m : Terms) → Light overHenderson 1440 (tableHenderson m)
 lightHenderson m = all-light (tableHenderson m) overHenderson 1440 (fairHenderson m)

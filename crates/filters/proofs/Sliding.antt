@@ -11,8 +11,8 @@ use Rattle.integers.specs.Lists.{_‼_}
 use Rattle.integers.specs.Rounding.{toGrain}
 use Rattle.integers.specs.Sums.{sumZ, sumN, wsum}
 use Rattle.integers.proofs.SumLaws.{sum-same, wsum-within}
-use Rattle.rows.specs.Table.{rowWeight, denominator}
-use Rattle.filters.specs.Filter.{dot, rowFor, weightedSum, byRow, earlier, later, valueAt}
+use Rattle.rows.specs.Table.{rowFor, middleRow, rowWeight, denominator}
+use Rattle.filters.specs.Filter.{dot, weightedSum, byRow, earlier, later, valueAt}
 use Rattle.rows.specs.MeanRows.{row2x12}
 use Rattle.rows.specs.FilterTables.{table2x12}
 use Rattle.filters.specs.Contracts.{largest, sum2x12}
@@ -69,7 +69,7 @@ six-later past i l = sym (count-is 1 6 (past - 1 - (i + 6)) 6 (omega arith) (ome
 
 -- the filter's value with six on each side is that sum in 24ths
 by-middle-row : (x : List ℤ) (i : ℕ) → byRow table2x12 6 6 x (i + 6) ≡ toGrain (sum2x12 x i) 24
-unfolding sum2x12 table2x12 rowWeight denominator byRow weightedSum rowFor
+unfolding sum2x12 table2x12 rowWeight middleRow denominator byRow weightedSum rowFor
 by-middle-row x i =
     let from : i + 6 - 6 * 1 ≡ i = omega arith in
     ap (λ (j : ℕ). toGrain (dot 13 (λ k. row2x12 ‼ (0 + k)) x j 1) 24) from

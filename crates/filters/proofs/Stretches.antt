@@ -9,10 +9,10 @@ use native.Mathlib.Omega.{arith}
 use lib.ListN.{length}
 use lib.IntN.{ℤ}
 use Rattle.rows.specs.Table.{Table}
-use Rattle.filters.proofs.ByMonth.{all-months}
+use Rattle.filters.proofs.ByMonth.{steps-fit, all-months}
 use Rattle.filters.specs.Filter.{earlier, later, byRow, valueAt}
 use Rattle.filters.proofs.Window.{one-alike, side-alike, all-inside, one-step}
-use Rattle.filters.specs.Contracts.{Filterable, FilterableMonths, Readable, Served, Serves, rowBefore, rowAfter, inTurn, ServeInTurn, CanFilter, alike, monthsEach}
+use Rattle.filters.specs.Contracts.{Filterable, FilterableMonths, Readable, Served, Serves, turnBefore, turnAfter, inTurn, ServeInTurn, CanFilter, alike, monthsEach}
 
 -- of a distance d, b steps are whole, or more than a row takes
 pub count-is : (step side d b : ℕ) → 1 ≤ step → b ≤ side → b * step ≤ d → (b ≡ side) ⊎ (d < b * step + step) → b ≡ min (d / step) side
@@ -66,11 +66,11 @@ module _ {F : Table} {first past b a lo hi : ℕ} (s : Stretch F first past b a 
   stretch-later ok t l m = count-is (F .step) (F .side) (past - 1 - t) a (ok .step-least) (s .few-after) (omega (arith, s .after))
       (⊎-elim (λ e. inl e) (λ (e : past ≤ lo + a * F .step + F .step). inr (omega (arith, s .after))) (s .no-more-after))
 
--- ---- a part: `count` rows in turn from `row` on, each for a stretch of `each` months, from month `at` on
-pub record Part (F : Table) (first past row count at each : ℕ) : Type 0 where
-  pub rows : row + count ≤ 2 * F .side + 1
+-- ---- a part: `count` rows from a turn on, each for a stretch of `each` months, from month `at` on
+pub record Part (F : Table) (first past turn count at each : ℕ) : Type 0 where
+  pub turns : turn + count ≤ 2 * F .side + 1
   pub inside : at + count * each ≤ past
-  pub stretch : (k : ℕ) → k < count → Stretch F first past (rowBefore F (row + k)) (rowAfter F (row + k)) (at + k * each) (at + k * each + each)
+  pub stretch : (k : ℕ) → k < count → Stretch F first past (turnBefore F (turn + k)) (turnAfter F (turn + k)) (at + k * each) (at + k * each + each)
 
 -- the stretch in which a month lies
 stretch-of : (count each d : ℕ) → d < count * each → (1 ≤ each) × (d / each < count) × (d / each * each ≤ d) × (d < d / each * each + each)
@@ -87,16 +87,16 @@ div-is each d k l m =
     let b : d / each < k + 1 = div-lt-iff-lt-mul p .1 (omega (arith, add-mul k 1 each)) in
     omega (arith, a, b)
 
-pub in-turn-at : (F : Table) (row at each k : ℕ) (x : List ℤ) (t : ℕ) {b a : ℕ} → at + k * each ≤ t → t < at + k * each + each
-    → b ≡ min (row + k) (F .side) → a ≡ min (2 * F .side - (row + k)) (F .side) → byRow F b a x t ≡ inTurn F row at each x t
-unfolding inTurn rowBefore rowAfter
-in-turn-at F row at each k x t l m e f = rw (e, f, div-is each (t - at) k (omega arith) (omega arith))
+pub in-turn-at : (F : Table) (turn at each k : ℕ) (x : List ℤ) (t : ℕ) {b a : ℕ} → at + k * each ≤ t → t < at + k * each + each
+    → b ≡ min (turn + k) (F .side) → a ≡ min (2 * F .side - (turn + k)) (F .side) → byRow F b a x t ≡ inTurn F turn at each x t
+unfolding inTurn turnBefore turnAfter
+in-turn-at F turn at each k x t l m e f = rw (e, f, div-is each (t - at) k (omega arith) (omega arith))
 
-module _ {F : Table} {first past row count at each : ℕ} (p : Part F first past row count at each) where
-  pub part-serves : {x : List ℤ} → FilterableMonths first past x → ServeInTurn F row count at each x
-  part-serves q = record { rows = p .rows; inside = omega (arith, p .inside, q .inside); serves = λ k l. stretch-serves (p .stretch k l) q }
+module _ {F : Table} {first past turn count at each : ℕ} (p : Part F first past turn count at each) where
+  pub part-serves : {x : List ℤ} → FilterableMonths first past x → ServeInTurn F turn count at each x
+  part-serves q = record { turns = p .turns; inside = omega (arith, p .inside, q .inside); serves = λ k l. stretch-serves (p .stretch k l) q }
 
-  pub part-value : Readable F → (x : List ℤ) (t : ℕ) → at ≤ t → t < at + count * each → inTurn F row at each x t ≡ valueAt F first past x t
+  pub part-value : Readable F → (x : List ℤ) (t : ℕ) → at ≤ t → t < at + count * each → inTurn F turn at each x t ≡ valueAt F first past x t
   unfolding inTurn valueAt
   part-value ok x t l m =
       let k = (t - at) / each in
@@ -113,8 +113,8 @@ module _ (F : Table) (first past : ℕ) (enough : first + 2 * (F .side * F .step
   end = past - F .side * F .step
 
   start-part : Part F first past 0 (F .side) first (F .step)
-  unfolding rowBefore rowAfter
-  start-part = record { rows = omega arith; inside = omega arith; stretch = stretch }
+  unfolding turnBefore turnAfter
+  start-part = record { turns = omega arith; inside = omega arith; stretch = stretch }
     where
       stretch : (k : ℕ) → k < F .side → Stretch F first past (min (0 + k) (F .side)) (min (2 * F .side - (0 + k)) (F .side)) (first + k * F .step) (first + k * F .step + F .step)
       stretch k l =
@@ -134,8 +134,8 @@ module _ (F : Table) (first past : ℕ) (enough : first + 2 * (F .side * F .step
           })
 
   middle-part : Part F first past (F .side) 1 start (end - start)
-  unfolding rowBefore rowAfter
-  middle-part = record { rows = omega arith; inside = omega arith; stretch = stretch }
+  unfolding turnBefore turnAfter
+  middle-part = record { turns = omega arith; inside = omega arith; stretch = stretch }
     where
       stretch : (k : ℕ) → k < 1 → Stretch F first past (min (F .side + k) (F .side)) (min (2 * F .side - (F .side + k)) (F .side)) (start + k * (end - start)) (start + k * (end - start) + (end - start))
       stretch k l =
@@ -153,8 +153,8 @@ module _ (F : Table) (first past : ℕ) (enough : first + 2 * (F .side * F .step
           })
 
   end-part : Part F first past (F .side + 1) (F .side) end (F .step)
-  unfolding rowBefore rowAfter
-  end-part = record { rows = omega arith; inside = omega arith; stretch = stretch }
+  unfolding turnBefore turnAfter
+  end-part = record { turns = omega arith; inside = omega arith; stretch = stretch }
     where
       stretch : (k : ℕ) → k < F .side → Stretch F first past (min (F .side + 1 + k) (F .side)) (min (2 * F .side - (F .side + 1 + k)) (F .side)) (end + k * F .step) (end + k * F .step + F .step)
       stretch k l =
@@ -175,52 +175,52 @@ module _ (F : Table) (first past : ℕ) (enough : first + 2 * (F .side * F .step
             no-more-after = inr (omega (arith, f, g, i));
           })
 
--- what is left to fill begins at month lo, with row `row`: nothing is filled, the rows for the start have served, the middle one too, all have
-pub data Begun (F : Table) (first past row lo : ℕ) : Type 0 where
-  nothing : row ≡ 0 → lo ≡ first → Begun F first past row lo
-  the-start : row ≡ F .side → lo ≡ first + F .side * F .step → Begun F first past row lo
-  the-inside : row ≡ F .side + 1 → lo ≡ past - F .side * F .step → Begun F first past row lo
-  the-end : row ≡ 2 * F .side + 1 → lo ≡ past → Begun F first past row lo
+-- what is left to fill begins at month lo, with a turn: nothing is filled, the rows for the start have served, the middle one too, all have
+pub data Begun (F : Table) (first past turn lo : ℕ) : Type 0 where
+  nothing : turn ≡ 0 → lo ≡ first → Begun F first past turn lo
+  the-start : turn ≡ F .side → lo ≡ first + F .side * F .step → Begun F first past turn lo
+  the-inside : turn ≡ F .side + 1 → lo ≡ past - F .side * F .step → Begun F first past turn lo
+  the-end : turn ≡ 2 * F .side + 1 → lo ≡ past → Begun F first past turn lo
 
 -- the next part, and what is left after it
-pub record Next (F : Table) (first past row lo count each : ℕ) : Type 0 where
+pub record Next (F : Table) (first past turn lo count each : ℕ) : Type 0 where
   pub order : first ≤ lo
   pub room : lo + F .side * F .step ≤ past
   pub some : 1 ≤ count
-  pub part : Part F first past row count lo each
-  pub begun : Begun F first past (row + count) (lo + count * each)
+  pub part : Part F first past turn count lo each
+  pub begun : Begun F first past (turn + count) (lo + count * each)
 
-pub next-part : (F : Table) → Readable F → (first past : ℕ) → first + 2 * (F .side * F .step) ≤ past → (row lo : ℕ) → row ≤ 2 * F .side → Begun F first past row lo
-    → Next F first past row lo (alike (F .side) row) (monthsEach (F .side) (F .step) row lo past)
-next-part F ok first past enough row lo l (nothing e f) =
-    let n : row ≡ F .side → ⊥ = λ q. absurd (omega (arith, ok .side-least)) in
-    rw (side-alike (F .side) row n, one-step (F .side) (F .step) row lo past n, e, f) (record {
+pub next-part : (F : Table) → Readable F → (first past : ℕ) → first + 2 * (F .side * F .step) ≤ past → (turn lo : ℕ) → turn ≤ 2 * F .side → Begun F first past turn lo
+    → Next F first past turn lo (alike (F .side) turn) (monthsEach (F .side) (F .step) turn lo past)
+next-part F ok first past enough turn lo l (nothing e f) =
+    let n : turn ≡ F .side → ⊥ = λ q. absurd (omega (arith, ok .side-least)) in
+    rw (side-alike (F .side) turn n, one-step (F .side) (F .step) turn lo past n, e, f) (record {
       order = omega arith;
       room = omega arith;
       some = ok .side-least;
       part = start-part F first past enough;
       begun = the-start (omega arith) refl;
     })
-next-part F ok first past enough row lo l (the-start e f) =
-    rw (one-alike (F .side) row e, all-inside (F .side) (F .step) row lo past e, e, f) (record {
+next-part F ok first past enough turn lo l (the-start e f) =
+    rw (one-alike (F .side) turn e, all-inside (F .side) (F .step) turn lo past e, e, f) (record {
       order = omega arith;
       room = omega arith;
       some = omega arith;
       part = middle-part F first past enough;
       begun = the-inside refl (omega arith);
     })
-next-part F ok first past enough row lo l (the-inside e f) =
-    let n : row ≡ F .side → ⊥ = λ q. absurd (omega arith) in
-    rw (side-alike (F .side) row n, one-step (F .side) (F .step) row lo past n, e, f) (record {
+next-part F ok first past enough turn lo l (the-inside e f) =
+    let n : turn ≡ F .side → ⊥ = λ q. absurd (omega arith) in
+    rw (side-alike (F .side) turn n, one-step (F .side) (F .step) turn lo past n, e, f) (record {
       order = omega arith;
       room = omega arith;
       some = ok .side-least;
       part = end-part F first past enough;
       begun = the-end (omega arith) (omega arith);
     })
-next-part F ok first past enough row lo l (the-end e f) = absurd (omega arith)
+next-part F ok first past enough turn lo l (the-end e f) = absurd (omega arith)
 
-pub all-filled : {F : Table} → Readable F → {first past row lo : ℕ} → 2 * F .side < row → Begun F first past row lo → lo ≡ past
+pub all-filled : {F : Table} → Readable F → {first past turn lo : ℕ} → 2 * F .side < turn → Begun F first past turn lo → lo ≡ past
 all-filled ok l (nothing e f) = absurd (omega arith)
 all-filled ok l (the-start e f) = absurd (omega arith)
 all-filled ok l (the-inside e f) = absurd (omega (arith, ok .side-least))
@@ -229,3 +229,21 @@ all-filled ok l (the-end e f) = f
 -- a series has all its months
 pub filters-all : {F : Table} {x : List ℤ} → Readable F → Filterable x → 2 * (F .side * F .step) ≤ length x → CanFilter F 0 (length x) x
 filters-all ok h long = record { readable = ok; enough = omega (arith, long); filterable = all-months h }
+
+-- ---- one month, by its own counts
+module _ (F : Table) (first past t : ℕ) {b a : ℕ} (e : b ≡ min ((t - first) / F .step) (F .side)) (g : a ≡ min ((past - 1 - t) / F .step) (F .side)) where
+  pub place-served : {x : List ℤ} → FilterableMonths first past x → first ≤ t → t < past → Served F b a t x
+  place-served q l m =
+      let before : b * F .step ≤ t - first = rw e (steps-fit (t - first) (F .step) (F .side)) in
+      let after : a * F .step ≤ past - 1 - t = rw g (steps-fit (past - 1 - t) (F .step) (F .side)) in
+      record {
+        few-before = omega arith;
+        few-after = omega arith;
+        before = omega (arith, before);
+        after = omega (arith, after, q .inside);
+        small = λ i u v. q .small i (omega (arith, before)) (omega (arith, after));
+      }
+
+  pub by-counts : (x : List ℤ) → byRow F b a x t ≡ valueAt F first past x t
+  unfolding valueAt earlier later
+  by-counts x = rw (e, g)

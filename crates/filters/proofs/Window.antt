@@ -16,11 +16,11 @@ use Rattle.integers.specs.Rounding.{toGrain}
 use Rattle.integers.specs.Sums.{norm}
 use Rattle.integers.proofs.SumLaws.{sumN-upto, wsum-within}
 use Rattle.integers.specs.Contracts.{largestNumerator}
-use Rattle.rows.specs.Table.{Table, rowWeight, denominator}
+use Rattle.rows.specs.Table.{Table, rowFor, middleRow, rowCount, rowWeight, denominator}
 use Rattle.filters.specs.declared.Shape.{Shape}
 use Rattle.rows.proofs.RowTests.{all, all-at}
-use Rattle.filters.specs.Filter.{dot, rowFor, weightedSum, byRow}
-use Rattle.filters.specs.Contracts.{largest, largestNorm, largestOver, mostSide, mostStep, mostWidth, tableOf, Dots, Readable, Served, alike, monthsEach}
+use Rattle.filters.specs.Filter.{dot, weightedSum, byRow}
+use Rattle.filters.specs.Contracts.{largest, largestNorm, largestOver, mostSide, mostStep, mostWidth, mostRowStep, tableOf, Dots, Readable, Served, alike, monthsEach}
 use Rattle.filters.proofs.Light.{row-in}
 
 -- b values precede place t of x, and a follow
@@ -32,7 +32,9 @@ module _ (F : Table) (x : List ℤ) (t b a : ℕ) (ok : Readable F) (v : Served 
 
   row-room : rowFor F b a * F .width + (b + 1 + a) ≤ length (F .rows)
   unfolding rowFor
-  row-room = let l : b + (F .side - a) ≤ 2 * F .side = omega (arith, v) in omega (arith, v, mul-le-mul-right (F .width) l, ok .rows-long)
+  row-room =
+      let l : b * F .rowStep + (F .side - a) ≤ F .side * F .rowStep + F .side = omega (arith, mul-le-mul-right (F .rowStep) (v .few-before)) in
+      omega (arith, v, mul-le-mul-right (F .width) l, ok .rows-long)
 
   pub dots : Dots (F .rows) (rowFor F b a * F .width) (b + 1 + a) x (t - b * F .step) (F .step)
   unfolding rowWeight
@@ -54,38 +56,38 @@ dot-within {w} {at} {m} {x} {from} {step} h =
     w≤ (wsum-within m (λ k. w ‼ (at + k)) (λ k. x ‼ (from + k * step)) largest (λ i l. h .small i l)) (omega (arith, h .light))
 
 -- the denominator of a row
-pub in-middle : (F : Table) (r : ℕ) → r ≡ F .side → F .middle ≡ denominator F r
-unfolding denominator
-in-middle F r e = rw (eq-eqb r (F .side) e)
+pub in-middle : (F : Table) (r : ℕ) → r ≡ F .side * F .rowStep → F .middle ≡ denominator F r
+unfolding denominator middleRow
+in-middle F r e = rw (eq-eqb r (F .side * F .rowStep) e)
 
-pub at-ends : (F : Table) (r : ℕ) → (r ≡ F .side → ⊥) → F .ends ≡ denominator F r
-unfolding denominator
-at-ends F r e = rw (ne-eqb r (F .side) e)
+pub at-ends : (F : Table) (r : ℕ) → (r ≡ F .side * F .rowStep → ⊥) → F .ends ≡ denominator F r
+unfolding denominator middleRow
+at-ends F r e = rw (ne-eqb r (F .side * F .rowStep) e)
 
 -- the rows that serve as many months each, and how many
-pub one-alike : (side row : ℕ) → row ≡ side → alike side row ≡ 1
+pub one-alike : (side turn : ℕ) → turn ≡ side → alike side turn ≡ 1
 unfolding alike
-one-alike side row e = rw (eq-eqb row side e)
+one-alike side turn e = rw (eq-eqb turn side e)
 
-pub side-alike : (side row : ℕ) → (row ≡ side → ⊥) → alike side row ≡ side
+pub side-alike : (side turn : ℕ) → (turn ≡ side → ⊥) → alike side turn ≡ side
 unfolding alike
-side-alike side row e = rw (ne-eqb row side e)
+side-alike side turn e = rw (ne-eqb turn side e)
 
-pub all-inside : (side step row lo past : ℕ) → row ≡ side → monthsEach side step row lo past ≡ past - side * step - lo
+pub all-inside : (side step turn lo past : ℕ) → turn ≡ side → monthsEach side step turn lo past ≡ past - side * step - lo
 unfolding monthsEach
-all-inside side step row lo past e = rw (eq-eqb row side e)
+all-inside side step turn lo past e = rw (eq-eqb turn side e)
 
-pub one-step : (side step row lo past : ℕ) → (row ≡ side → ⊥) → monthsEach side step row lo past ≡ step
+pub one-step : (side step turn lo past : ℕ) → (turn ≡ side → ⊥) → monthsEach side step turn lo past ≡ step
 unfolding monthsEach
-one-step side step row lo past e = rw (ne-eqb row side e)
+one-step side step turn lo past e = rw (ne-eqb turn side e)
 
 pub any-weights : (f : Shape) (r : ℕ) (rows : List ℤ) → denominator (tableOf f []) r ≡ denominator (tableOf f rows) r
-unfolding denominator
+unfolding denominator middleRow
 any-weights f r rows = refl
 
 pub denominator-limits : (F : Table) → Readable F → (r : ℕ) → (1 ≤ denominator F r) × (denominator F r ≤ largestOver)
 unfolding denominator
-denominator-limits F h r = go (eqb r (F .side))
+denominator-limits F h r = go (eqb r (middleRow F))
   where
     go : (b : Bool) → (1 ≤ cond b (F .middle) (F .ends)) × (cond b (F .middle) (F .ends) ≤ largestOver)
     go true = (h .middle-least, h .middle-most)
@@ -94,21 +96,22 @@ denominator-limits F h r = go (eqb r (F .side))
 -- what is asked of a table, as tests that are computed
 abbrev pub Asked : Table → Type 0
 Asked F =
-    T (leb 1 (F .side)) × T (leb (F .side) mostSide) × T (leb 1 (F .step)) × T (leb (F .step) mostStep) × T (leb (F .width) mostWidth) × T (leb (2 * F .side * F .width + (2 * F .side + 1)) (length (F .rows)))
-    × T (all (2 * F .side + 1) (λ r. leb (norm (2 * F .side + 1) (rowWeight F r)) largestNorm))
+    T (leb 1 (F .side)) × T (leb (F .side) mostSide) × T (leb (F .rowStep) mostRowStep) × T (leb 1 (F .step)) × T (leb (F .step) mostStep) × T (leb (F .width) mostWidth) × T (leb ((F .side * F .rowStep + F .side) * F .width + (2 * F .side + 1)) (length (F .rows)))
+    × T (all (rowCount F) (λ r. leb (norm (2 * F .side + 1) (rowWeight F r)) largestNorm))
     × T (leb 1 (F .middle)) × T (leb 1 (F .ends)) × T (leb (F .middle) largestOver) × T (leb (F .ends) largestOver)
 
 pub readable : (F : Table) → Asked F → Readable F
 readable F q = record {
   side-least = leb→le _ _ (q .0);
   side-most = leb→le _ _ (q .1);
-  step-least = leb→le _ _ (q .2);
-  step-most = leb→le _ _ (q .3);
-  width-most = leb→le _ _ (q .4);
-  rows-long = leb→le _ _ (q .5);
-  light = λ r k. leb→le _ _ (all-at (2 * F .side + 1) (λ r. leb (norm (2 * F .side + 1) (rowWeight F r)) largestNorm) (q .6) r k);
-  middle-least = leb→le _ _ (q .7);
-  ends-least = leb→le _ _ (q .8);
-  middle-most = leb→le _ _ (q .9);
-  ends-most = leb→le _ _ (q .10);
+  rowStep-most = leb→le _ _ (q .2);
+  step-least = leb→le _ _ (q .3);
+  step-most = leb→le _ _ (q .4);
+  width-most = leb→le _ _ (q .5);
+  rows-long = leb→le _ _ (q .6);
+  light = λ r k. leb→le _ _ (all-at (rowCount F) (λ r. leb (norm (2 * F .side + 1) (rowWeight F r)) largestNorm) (q .7) r k);
+  middle-least = leb→le _ _ (q .8);
+  ends-least = leb→le _ _ (q .9);
+  middle-most = leb→le _ _ (q .10);
+  ends-most = leb→le _ _ (q .11);
 }

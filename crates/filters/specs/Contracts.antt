@@ -10,7 +10,7 @@ use Rattle.integers.specs.Lists.{_‼_, AllWithin}
 use Rattle.integers.specs.Filling.{Filled}
 use Rattle.integers.specs.Sums.{norm}
 use Rattle.refusals.specs.Limits.{mostMonths, monthsOfYear}
-use Rattle.rows.specs.Table.{Table, rowWeight}
+use Rattle.rows.specs.Table.{Table, rowCount, rowWeight}
 use Rattle.rows.specs.MeanRows.{row2x12}
 use Rattle.filters.specs.declared.Shape.{Shape}
 use Rattle.filters.specs.Filter.{dot, byRow, valueAt}
@@ -27,7 +27,7 @@ largestNorm = 1_440_000
 abbrev pub largestOver : ℕ
 largestOver = 1_000_000
 
--- rows take so many values on each side at most, so far apart, and are so wide
+-- rows take so many values on each side at most, so far apart, and are so wide; the rows for one value more before stand so many rows on
 abbrev pub mostSide : ℕ
 mostSide = 15
 
@@ -37,17 +37,20 @@ mostStep = monthsOfYear
 abbrev pub mostWidth : ℕ
 mostWidth = 2 * mostSide + 1
 
+abbrev pub mostRowStep : ℕ
+mostRowStep = mostSide + 1
+
 -- a table from the shape and the rows that the code passes
 abbrev pub tableOf : Shape → List ℤ → Table
-tableOf f rows = record { side = f .side; step = f .step; width = f .width; rows = rows; middle = f .middle; ends = f .ends }
+tableOf f rows = record { side = f .side; rowStep = f .«row_step»; step = f .step; width = f .width; rows = rows; middle = f .middle; ends = f .ends }
 
 -- a table with `side` values on each side, rows as wide, and these denominators
-abbrev pub tableWith : ℕ → ℕ → ℕ → ℕ → List ℤ → Table
-tableWith side step middle ends rows = record { side = side; step = step; width = 2 * side + 1; rows = rows; middle = middle; ends = ends }
+abbrev pub tableWith : ℕ → ℕ → ℕ → ℕ → ℕ → List ℤ → Table
+tableWith side rowStep step middle ends rows = record { side = side; rowStep = rowStep; step = step; width = 2 * side + 1; rows = rows; middle = middle; ends = ends }
 
--- METHOD 2.3 and 2.4: a seasonal filter, whose values stand twelve months apart and whose rows have one denominator
-abbrev pub runTable : ℕ → ℕ → List ℤ → Table
-runTable side over rows = tableWith side monthsOfYear over over rows
+-- METHOD 2.3, 2.4 and 2.8: a seasonal filter, whose values stand twelve months apart
+abbrev pub runTable : ℕ → ℕ → ℕ → ℕ → List ℤ → Table
+runTable side rowStep middle ends rows = tableWith side rowStep monthsOfYear middle ends rows
 
 -- m weights from `at` on, and the values that they meet
 pub record Dots (w : List ℤ) (at m : ℕ) (x : List ℤ) (from step : ℕ) : Type 0 where
@@ -71,11 +74,12 @@ pub record FilterableMonths (first past : ℕ) (x : List ℤ) : Type 0 where
 pub record Readable (F : Table) : Type 0 where
   pub side-least : 1 ≤ F .side
   pub side-most : F .side ≤ mostSide
+  pub rowStep-most : F .rowStep ≤ mostRowStep
   pub step-least : 1 ≤ F .step
   pub step-most : F .step ≤ mostStep
   pub width-most : F .width ≤ mostWidth
-  pub rows-long : 2 * F .side * F .width + (2 * F .side + 1) ≤ length (F .rows)
-  pub light : (r : ℕ) → r < 2 * F .side + 1 → norm (2 * F .side + 1) (rowWeight F r) ≤ largestNorm
+  pub rows-long : (F .side * F .rowStep + F .side) * F .width + (2 * F .side + 1) ≤ length (F .rows)
+  pub light : (r : ℕ) → r < rowCount F → norm (2 * F .side + 1) (rowWeight F r) ≤ largestNorm
   pub middle-least : 1 ≤ F .middle
   pub ends-least : 1 ≤ F .ends
   pub middle-most : F .middle ≤ largestOver
@@ -98,26 +102,27 @@ pub record Serves (F : Table) (b a lo hi : ℕ) (x : List ℤ) : Type 0 where
   pub after : hi + a * F .step ≤ length x
   pub small : (i : ℕ) → lo ≤ i + b * F .step → i < hi + a * F .step → (x ‼ i) within largest
 
--- how many values row r takes before and after the present one
-unfoldable pub rowBefore : Table → ℕ → ℕ
-rowBefore F r = min r (F .side)
+-- Where no place is short on both sides, 2 side + 1 rows serve in turn from the first month to the last: those for 0, 1, .. `side` values before, with
+-- `side` after, then those with fewer and fewer after. How many values turn r has before and after the present one
+unfoldable pub turnBefore : Table → ℕ → ℕ
+turnBefore F r = min r (F .side)
 
-unfoldable pub rowAfter : Table → ℕ → ℕ
-rowAfter F r = min (2 * F .side - r) (F .side)
+unfoldable pub turnAfter : Table → ℕ → ℕ
+turnAfter F r = min (2 * F .side - r) (F .side)
 
--- rows in turn from `row` on, each for `each` places, from place `at` on: the value at place t
+-- the rows from a turn on, each for `each` places, from place `at` on: the value at place t
 unfoldable pub inTurn : Table → ℕ → ℕ → ℕ → List ℤ → ℕ → ℤ
-inTurn F row at each x t =
-    let r = row + (t - at) / each in
-    byRow F (rowBefore F r) (rowAfter F r) x t
+inTurn F turn at each x t =
+    let r = turn + (t - at) / each in
+    byRow F (turnBefore F r) (turnAfter F r) x t
 
 -- `count` rows can be taken so
-pub record ServeInTurn (F : Table) (row count at each : ℕ) (x : List ℤ) : Type 0 where
-  pub rows : row + count ≤ 2 * F .side + 1
+pub record ServeInTurn (F : Table) (turn count at each : ℕ) (x : List ℤ) : Type 0 where
+  pub turns : turn + count ≤ 2 * F .side + 1
   pub inside : at + count * each ≤ length x
-  pub serves : (k : ℕ) → k < count → Serves F (rowBefore F (row + k)) (rowAfter F (row + k)) (at + k * each) (at + k * each + each) x
+  pub serves : (k : ℕ) → k < count → Serves F (turnBefore F (turn + k)) (turnAfter F (turn + k)) (at + k * each) (at + k * each + each) x
 
--- the rows F can filter the months from `first` to below `past` of a slice: these are enough for them
+-- the rows F can filter the months from `first` to below `past` of a slice, in turn: these are enough for them
 pub record CanFilter (F : Table) (first past : ℕ) (x : List ℤ) : Type 0 where
   pub readable : Readable F
   pub enough : first + 2 * (F .side * F .step) ≤ past
@@ -128,13 +133,13 @@ pub record CanFilter (F : Table) (first past : ℕ) (x : List ℤ) : Type 0 wher
 abbrev pub FilteredMonths : Table → ℕ → ℕ → List ℤ → List ℤ → List ℤ → Type 0
 FilteredMonths F first past x old new = Filled (pos 0) (valueAt F first past x) first past old new
 
--- how many rows from `row` on serve as many months each, `row` being the first of the rows before the middle one, that one, or the first after it
+-- how many rows from a turn on serve as many months each: that turn is the first before the middle row, that of the middle row, or the first after it
 unfoldable pub alike : ℕ → ℕ → ℕ
-alike side row = cond (eqb row side) 1 side
+alike side turn = cond (eqb turn side) 1 side
 
 -- and how many months each of these serves, from month lo on: `step` of them, the middle row all that are left but those of the rows after it
 unfoldable pub monthsEach : ℕ → ℕ → ℕ → ℕ → ℕ → ℕ
-monthsEach side step row lo past = cond (eqb row side) (past - side * step - lo) step
+monthsEach side step turn lo past = cond (eqb turn side) (past - side * step - lo) step
 
 -- the weighted sum of 2×12 over the thirteen values from place i on
 unfoldable pub sum2x12 : List ℤ → ℕ → ℤ

@@ -7,18 +7,14 @@ use lib.IntN.{ℤ, pos, _*ℤ_}
 use Rattle.integers.specs.Lists.{_‼_, tab}
 use Rattle.integers.specs.Rounding.{toGrain}
 use Rattle.integers.specs.Sums.{wsum}
-use Rattle.rows.specs.Table.{Table, rowWeight, denominator}
+use Rattle.rows.specs.Table.{Table, rowFor, rowWeight, denominator}
 
 -- the sum of w k * x (from + k * step) over k < m
 unfoldable pub dot : ℕ → (ℕ → ℤ) → List ℤ → ℕ → ℕ → ℤ
 dot m w x from step = wsum m w (λ k. x ‼ (from + k * step))
 
--- METHOD 2.1: the row for b values before the present one and a after it
-unfoldable pub rowFor : Table → ℕ → ℕ → ℕ
-rowFor F b a = b + (F .side - a)
-
--- METHOD 2.1 and 2.3: the weighted sum of month t by that row. Its values stand one step apart, the first b steps before t, the last a steps after it;
--- of a seasonal filter a step is twelve months
+-- METHOD 2.1 and 2.3: the weighted sum of month t by the row for b values before it and a after it. These values stand one step apart, the first b
+-- steps before t, the last a steps after it; of a seasonal filter a step is twelve months
 unfoldable pub weightedSum : Table → ℕ → ℕ → List ℤ → ℕ → ℤ
 weightedSum F b a x t = dot (b + 1 + a) (rowWeight F (rowFor F b a)) x (t - b * F .step) (F .step)
 
@@ -26,14 +22,16 @@ weightedSum F b a x t = dot (b + 1 + a) (rowWeight F (rowFor F b a)) x (t - b * 
 unfoldable pub byRow : Table → ℕ → ℕ → List ℤ → ℕ → ℤ
 byRow F b a x t = toGrain (weightedSum F b a x t) (denominator F (rowFor F b a))
 
--- METHOD 6.1: as a whole number over L times the denominator of the values. L is a multiple of the denominators of the rows (24, 27, 60;
--- 46,189,000,000 is 19,000,000 times 2,431, 2,750,000 times 16,796 and 46,189 times 1,000,000), so that nothing is rounded or cut
+-- METHOD 6.1: as a whole number over L times the denominator of the values. L is a multiple of the denominators of the rows (24; 748,440 is 27,720
+-- times 27 and 12,474 times 60; 46,189,000,000 is 19,000,000 times 2,431, 2,750,000 times 16,796 and 46,189 times 1,000,000), so that nothing is
+-- rounded or cut
 unfoldable pub exactByRow : Table → ℕ → ℕ → ℕ → List ℤ → ℕ → ℤ
 exactByRow F L b a x t = pos (L / denominator F (rowFor F b a)) *ℤ weightedSum F b a x t
 
 -- METHOD 2.1 and 2.3: of values that stand at the months from `first` to below `past` and nowhere else, how many precede month t and how many follow
--- it, one step apart, as far as a row can take them. Each place of a run of six values, which 72 months give, has three on one side; SI1 has runs of
--- five at least, whose places have two on one side, enough for 3×3; Henderson's 23 terms ask for 22 months: no place is short on both sides
+-- it, one step apart, as far as a row can take them. A place of 3×9 may be short on both sides: it has a row for each pair of counts. No other filter
+-- has such a place: of a run of six values, which 72 months give, each has three on one side, enough for 3×5; SI1 has runs of five at least, whose
+-- places have two on one side, enough for 3×3; Henderson's 23 terms ask for 22 months
 unfoldable pub earlier : Table → ℕ → ℕ → ℕ
 earlier F first t = min ((t - first) / F .step) (F .side)
 

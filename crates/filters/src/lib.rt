@@ -11,10 +11,12 @@ ghost use Rattle.integers.specs.Filling.{Filled};
 ghost use Rattle.integers.specs.Contracts.{largestNumerator};
 ghost use Rattle.refusals.specs.Limits.{mostMonths};
 ghost use Rattle.rows.specs.Table.{denominator};
+ghost use Rattle.rows.specs.declared.SeasonalFilter.the-variants.{ThreeByThree, ThreeByFive, ThreeByNine};
 ghost use Rattle.rows.specs.declared.Terms.the-variants.{Nine, Thirteen, TwentyThree};
-ghost use Rattle.rows.specs.FilterTables.{table2x12, table3x3, table3x5, tableHenderson};
+ghost use Rattle.rows.specs.FilterTables.{table2x12, tableSeasonal, tableHenderson};
 ghost use Rattle.filters.specs.Filter.{dot, byRow, valueAt, filter};
-ghost use Rattle.filters.specs.Contracts.{tableOf, tableWith, runTable, largestOver, Dots, Filterable, FilterableMonths, Readable, Served, Serves, inTurn, ServeInTurn, CanFilter, FilteredMonths, alike, monthsEach, Slides, sum2x12};
+ghost use Rattle.filters.specs.Contracts.{tableOf, tableWith, runTable, largestOver, mostSide, mostRowStep, Dots, Filterable, FilterableMonths, Readable, Served, Serves, inTurn, ServeInTurn, CanFilter, FilteredMonths, alike, monthsEach, Slides, sum2x12};
+use rows::SeasonalFilter;
 use rows::Terms;
 use rows::henderson_9::MIDDLE_HENDERSON_9;
 use rows::henderson_9::ROWS_HENDERSON_9;
@@ -32,11 +34,17 @@ use rows::mean_rows::ROWS_3X3;
 use rows::mean_rows::ROWS_3X5;
 use rows::mean_rows::SIDE_3X3;
 use rows::mean_rows::SIDE_3X5;
+use rows::three_by_nine::ENDS_3X9;
+use rows::three_by_nine::MIDDLE_3X9;
+use rows::three_by_nine::ROW_STEP_3X9;
+use rows::three_by_nine::ROWS_3X9;
+use rows::three_by_nine::SIDE_3X9;
 
-// The shape of a filter's rows: `side` values on each side of a full row, `step` months apart; rows of `width` places; the denominator of the
-// middle row and that of the others.
+// The shape of a filter's rows: `side` values on each side of a full row, `step` months apart; the rows for one value more before stand `row_step` rows
+// on; rows of `width` places; the denominator of the middle row and that of the others.
 struct Shape {
     side: usize,
+    row_step: usize,
     step: usize,
     width: usize,
     middle: usize,
@@ -74,9 +82,14 @@ fn rounded(sum: i64, d: usize) -> i64
 
 // The denominator of a row, whatever its weights are: the middle one has its own.
 fn denominator(f: Shape, row: usize) -> usize
+    requires { ⌜ (f .side ≤ mostSide) × (f .«row_step» ≤ mostRowStep) ⌝ }
     ensures { λ r. ⌜ r ≡ denominator (tableOf f []) row ⌝ }
 {
-    if row == f.side { f.middle } else { f.ends }
+    if row == f.side * f.row_step {
+        f.middle
+    } else {
+        f.ends
+    }
 }
 
 // The filter's value at place t by the row for so many values before and after it.
@@ -84,7 +97,7 @@ fn by_row(f: Shape, rows: &[i64], x: &[i64], earlier: usize, later: usize, t: us
     requires { ⌜ Readable (tableOf f (now rows)) × Served (tableOf f (now rows)) earlier later t (now x) × (length (now x) ≤ mostMonths) ⌝ }
     ensures { λ r. ⌜ r ≡ byRow (tableOf f (now (rows .entry))) earlier later (now (x .entry)) t ⌝ }
 {
-    let row = earlier + (f.side - later);
+    let row = earlier * f.row_step + (f.side - later);
     let from = t - earlier * f.step;
     let sum = dot(rows, row * f.width, earlier + 1 + later, x, from, f.step);
     rounded(sum, denominator(f, row))
@@ -110,43 +123,43 @@ fn fill_row(
     }
 }
 
-// The filter by `count` rows in turn, the first of them `row`, from place `at` on: each serves `each` places.
+// The filter by `count` rows in turn, from a turn on, from place `at` on: each serves `each` places.
 fn fill_rows(
     f: Shape,
     rows: &[i64],
     x: &[i64],
-    row: usize,
+    turn: usize,
     count: usize,
     at: usize,
     each: usize,
     out: &mut [i64],
 )
-    requires { ⌜ Readable (tableOf f (now rows)) × ServeInTurn (tableOf f (now rows)) row count at each (now x)
+    requires { ⌜ Readable (tableOf f (now rows)) × ServeInTurn (tableOf f (now rows)) turn count at each (now x)
         × (length (now x) ≤ mostMonths) × (length (now out) ≡ length (now x)) ⌝ }
-    ensures { λ _. ⌜ Filled (pos 0) (inTurn (tableOf f (now (rows .entry))) row at each (now (x .entry))) at (at + count * each)
+    ensures { λ _. ⌜ Filled (pos 0) (inTurn (tableOf f (now (rows .entry))) turn at each (now (x .entry))) at (at + count * each)
         (now (out .entry)) (now (out .exit)) ⌝ }
 {
     for k in 0..count {
-        let earlier = least(row + k, f.side);
-        let later = least(2 * f.side - (row + k), f.side);
+        let earlier = least(turn + k, f.side);
+        let later = least(2 * f.side - (turn + k), f.side);
         let lo = at + k * each;
         fill_row(f, rows, x, earlier, later, lo, lo + each, out);
     }
 }
 
-// How many rows from `row` on serve as many months each, `row` being the first of the rows before the middle one, that one, or the first after it.
-fn alike(side: usize, row: usize) -> usize
-    ensures { λ r. ⌜ r ≡ alike side row ⌝ }
+// How many rows from a turn on serve as many months each: that turn is the first before the middle row, its own, or the first after it.
+fn alike(side: usize, turn: usize) -> usize
+    ensures { λ r. ⌜ r ≡ alike side turn ⌝ }
 {
-    if row == side { 1 } else { side }
+    if turn == side { 1 } else { side }
 }
 
 // How many months each of these rows serves, from month lo on: `step` of them, the middle row all that are left but those of the rows after it.
-fn months_each(side: usize, step: usize, row: usize, lo: usize, past: usize) -> usize
+fn months_each(side: usize, step: usize, turn: usize, lo: usize, past: usize) -> usize
     requires { ⌜ (lo + side * step ≤ past) × (past ≤ mostMonths) ⌝ }
-    ensures { λ r. ⌜ r ≡ monthsEach side step row lo past ⌝ }
+    ensures { λ r. ⌜ r ≡ monthsEach side step turn lo past ⌝ }
 {
-    if row == side {
+    if turn == side {
         past - side * step - lo
     } else {
         step
@@ -157,6 +170,7 @@ fn months_each(side: usize, step: usize, row: usize, lo: usize, past: usize) -> 
 // numbers, which the compiler then knows (docs/DECISIONS.md, 24).
 fn fill_months(
     side: usize,
+    row_step: usize,
     step: usize,
     middle: usize,
     ends: usize,
@@ -166,23 +180,24 @@ fn fill_months(
     x: &[i64],
     out: &mut [i64],
 )
-    requires { ⌜ CanFilter (tableWith side step middle ends (now rows)) first past (now x) × (length (now out) ≡ length (now x)) ⌝ }
-    ensures { λ _. ⌜ FilteredMonths (tableWith side step middle ends (now (rows .entry))) first past (now (x .entry)) (now (out .entry)) (now (out .exit)) ⌝ }
+    requires { ⌜ CanFilter (tableWith side «row_step» step middle ends (now rows)) first past (now x) × (length (now out) ≡ length (now x)) ⌝ }
+    ensures { λ _. ⌜ FilteredMonths (tableWith side «row_step» step middle ends (now (rows .entry))) first past (now (x .entry)) (now (out .entry)) (now (out .exit)) ⌝ }
 {
     let f = Shape {
         side: side,
+        row_step: row_step,
         step: step,
         width: 2 * side + 1,
         middle: middle,
         ends: ends,
     };
-    let mut row = 0;
+    let mut turn = 0;
     let mut lo = first;
-    while row <= 2 * side {
-        let count = alike(side, row);
-        let each = months_each(side, step, row, lo, past);
-        fill_rows(f, rows, x, row, count, lo, each, out);
-        row += count;
+    while turn <= 2 * side {
+        let count = alike(side, turn);
+        let each = months_each(side, step, turn, lo, past);
+        fill_rows(f, rows, x, turn, count, lo, each, out);
+        turn += count;
         lo += count * each;
     }
 }
@@ -192,27 +207,60 @@ fn fill_months(
 // after. Nothing else is written.
 fn month_runs(
     side: usize,
-    over: usize,
+    row_step: usize,
+    middle: usize,
+    ends: usize,
     rows: &[i64],
     first: usize,
     past: usize,
     x: &[i64],
     out: &mut [i64],
 )
-    requires { ⌜ CanFilter (runTable side over (now rows)) first past (now x) × (length (now out) ≡ length (now x)) ⌝ }
-    ensures { λ _. ⌜ FilteredMonths (runTable side over (now (rows .entry))) first past (now (x .entry)) (now (out .entry)) (now (out .exit)) ⌝ }
+    requires { ⌜ CanFilter (runTable side «row_step» middle ends (now rows)) first past (now x) × (length (now out) ≡ length (now x)) ⌝ }
+    ensures { λ _. ⌜ FilteredMonths (runTable side «row_step» middle ends (now (rows .entry))) first past (now (x .entry)) (now (out .entry)) (now (out .exit)) ⌝ }
 {
     fill_months(
         side,
+        row_step,
         refusals::MONTHS_OF_YEAR,
-        over,
-        over,
+        middle,
+        ends,
         rows,
         first,
         past,
         x,
         out,
     );
+}
+
+// The same month by month, each by the row for its own counts, where the months are too few for rows in turn: a place may be short on both sides.
+fn short_runs(
+    side: usize,
+    row_step: usize,
+    middle: usize,
+    ends: usize,
+    rows: &[i64],
+    first: usize,
+    past: usize,
+    x: &[i64],
+    out: &mut [i64],
+)
+    requires { ⌜ Readable (runTable side «row_step» middle ends (now rows)) × FilterableMonths first past (now x) × (first ≤ past) × (length (now out) ≡ length (now x)) ⌝ }
+    ensures { λ _. ⌜ FilteredMonths (runTable side «row_step» middle ends (now (rows .entry))) first past (now (x .entry)) (now (out .entry)) (now (out .exit)) ⌝ }
+{
+    let f = Shape {
+        side: side,
+        row_step: row_step,
+        step: refusals::MONTHS_OF_YEAR,
+        width: 2 * side + 1,
+        middle: middle,
+        ends: ends,
+    };
+    for t in first..past {
+        let earlier = least((t - first) / refusals::MONTHS_OF_YEAR, side);
+        let later = least((past - 1 - t) / refusals::MONTHS_OF_YEAR, side);
+        out[t] = by_row(f, rows, x, earlier, later, t);
+    }
 }
 
 // The weighted sum of 2x12 over the thirteen values from place i on, from that of the place before: two values leave and two come in.
@@ -240,17 +288,81 @@ pub fn two_by_twelve(first: usize, past: usize, x: &[i64], out: &mut [i64])
 // METHOD 2.3: 3x3 of each month's run.
 pub fn three_by_three(first: usize, past: usize, x: &[i64], out: &mut [i64])
     requires { ⌜ FilterableMonths first past (now x) × (first + 48 ≤ past) × (length (now out) ≡ length (now x)) ⌝ }
-    ensures { λ _. ⌜ FilteredMonths table3x3 first past (now (x .entry)) (now (out .entry)) (now (out .exit)) ⌝ }
+    ensures { λ _. ⌜ FilteredMonths (tableSeasonal ThreeByThree) first past (now (x .entry)) (now (out .entry)) (now (out .exit)) ⌝ }
 {
-    month_runs(SIDE_3X3, OVER_3X3, &ROWS_3X3, first, past, x, out);
+    month_runs(
+        SIDE_3X3,
+        1,
+        OVER_3X3,
+        OVER_3X3,
+        &ROWS_3X3,
+        first,
+        past,
+        x,
+        out,
+    );
 }
 
 // METHOD 2.4: 3x5 of each month's run.
 pub fn three_by_five(first: usize, past: usize, x: &[i64], out: &mut [i64])
     requires { ⌜ FilterableMonths first past (now x) × (first + 72 ≤ past) × (length (now out) ≡ length (now x)) ⌝ }
-    ensures { λ _. ⌜ FilteredMonths table3x5 first past (now (x .entry)) (now (out .entry)) (now (out .exit)) ⌝ }
+    ensures { λ _. ⌜ FilteredMonths (tableSeasonal ThreeByFive) first past (now (x .entry)) (now (out .entry)) (now (out .exit)) ⌝ }
 {
-    month_runs(SIDE_3X5, OVER_3X5, &ROWS_3X5, first, past, x, out);
+    month_runs(
+        SIDE_3X5,
+        1,
+        OVER_3X5,
+        OVER_3X5,
+        &ROWS_3X5,
+        first,
+        past,
+        x,
+        out,
+    );
+}
+
+// METHOD 2.8: 3x9 of each month's run, with a row for each pair of counts.
+fn three_by_nine(first: usize, past: usize, x: &[i64], out: &mut [i64])
+    requires { ⌜ FilterableMonths first past (now x) × (first ≤ past) × (length (now out) ≡ length (now x)) ⌝ }
+    ensures { λ _. ⌜ FilteredMonths (tableSeasonal ThreeByNine) first past (now (x .entry)) (now (out .entry)) (now (out .exit)) ⌝ }
+{
+    if past - first < 120 {
+        short_runs(
+            SIDE_3X9,
+            ROW_STEP_3X9,
+            MIDDLE_3X9,
+            ENDS_3X9,
+            &ROWS_3X9,
+            first,
+            past,
+            x,
+            out,
+        );
+    } else {
+        month_runs(
+            SIDE_3X9,
+            ROW_STEP_3X9,
+            MIDDLE_3X9,
+            ENDS_3X9,
+            &ROWS_3X9,
+            first,
+            past,
+            x,
+            out,
+        );
+    }
+}
+
+// METHOD 2.3, 2.4 and 2.8: a seasonal filter of each month's run.
+pub fn seasonal(chosen: SeasonalFilter, first: usize, past: usize, x: &[i64], out: &mut [i64])
+    requires { ⌜ FilterableMonths first past (now x) × (first + 72 ≤ past) × (length (now out) ≡ length (now x)) ⌝ }
+    ensures { λ _. ⌜ FilteredMonths (tableSeasonal chosen) first past (now (x .entry)) (now (out .entry)) (now (out .exit)) ⌝ }
+{
+    match chosen {
+        SeasonalFilter::ThreeByThree => three_by_three(first, past, x, out),
+        SeasonalFilter::ThreeByFive => three_by_five(first, past, x, out),
+        SeasonalFilter::ThreeByNine => three_by_nine(first, past, x, out),
+    }
 }
 
 // Henderson's 9 terms, with Musgrave's ends.
@@ -261,6 +373,7 @@ fn henderson_9(x: &[i64], out: &mut [i64])
     let n = x.len();
     fill_months(
         SIDE_HENDERSON_9,
+        1,
         1,
         MIDDLE_HENDERSON_9,
         rows::ENDS_HENDERSON,
@@ -281,6 +394,7 @@ fn henderson_13(x: &[i64], out: &mut [i64])
     fill_months(
         SIDE_HENDERSON_13,
         1,
+        1,
         MIDDLE_HENDERSON_13,
         rows::ENDS_HENDERSON,
         &ROWS_HENDERSON_13,
@@ -299,6 +413,7 @@ fn henderson_23(x: &[i64], out: &mut [i64])
     let n = x.len();
     fill_months(
         SIDE_HENDERSON_23,
+        1,
         1,
         MIDDLE_HENDERSON_23,
         rows::ENDS_HENDERSON,

@@ -38,7 +38,18 @@ sumN-fewer m (suc i) f = rw add-suc (omega (arith, sumN-fewer m i f))
 pub sumN-upto : (k m : ℕ) (f : ℕ → ℕ) → k ≤ m → sumN k f ≤ sumN m f
 sumN-upto k m f l = let e : k + (m - k) ≡ m = omega arith in subst (λ (n : ℕ). sumN k f ≤ sumN n f) e (sumN-fewer k (m - k) f)
 
+-- the last terms apart
+pub sumN-split : (k m : ℕ) (f : ℕ → ℕ) → sumN (k + m) f ≡ sumN k f + sumN m (λ i. f (k + i))
+unfolding sumN
+sumN-split k zero f = rw add-zero (omega arith)
+sumN-split k (suc m) f = rw add-suc (omega (arith, sumN-split k m f))
+
 -- ---- equal terms, differences
+pub sumN-same : (k : ℕ) (f g : ℕ → ℕ) → ((i : ℕ) → i < k → f i ≡ g i) → sumN k f ≡ sumN k g
+unfolding sumN
+sumN-same zero f g e = refl
+sumN-same (suc k) f g e = ap₂ _+_ (sumN-same k f g (λ i l. e i (omega arith))) (e k (omega arith))
+
 pub sum-same : (k : ℕ) (f g : ℕ → ℤ) → ((i : ℕ) → i < k → f i ≡ g i) → sumZ k f ≡ sumZ k g
 unfolding sumZ
 sum-same zero f g e = refl

@@ -13,7 +13,8 @@ use Rattle.filters.specs.Contracts.{largest, Filterable, FilterableMonths}
 use Rattle.series.specs.Contracts.{Minusable}
 use Rattle.series.specs.Operations.{minus, pick}
 use Rattle.refusals.specs.Limits.{mostMonths}
-use Rattle.steps.specs.Choices.{plainMonthly}
+use Rattle.rows.specs.declared.SeasonalFilter.{SeasonalFilter}
+use Rattle.steps.specs.Choices.{plainBy}
 use Rattle.steps.specs.Places.{nearestMonth, nearestLevel}
 use Rattle.steps.specs.Steps.{T2, S2}
 
@@ -96,7 +97,7 @@ pub record Adjustable (x s : List ℤ) : Type 0 where
   pub both : Minusable x s
   pub less : AllWithin largest (minus x s)
 
--- what a pass leaves: T2 and S2 of x
-pub record PassDone (x t s : List ℤ) : Type 0 where
-  pub trend : t ≡ T2 plainMonthly x
-  pub seasonal : s ≡ S2 plainMonthly x
+-- what a pass with the filter f in step 6 leaves: T2 and S2 of x
+pub record PassDone (f : SeasonalFilter) (x t s : List ℤ) : Type 0 where
+  pub trend : t ≡ T2 (plainBy f) x
+  pub seasonal : s ≡ S2 (plainBy f) x

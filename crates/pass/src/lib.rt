@@ -8,13 +8,15 @@ ghost use Rattle.integers.specs.Filling.{Filled};
 ghost use Rattle.integers.specs.Lists.{_‼_};
 ghost use Rattle.refusals.specs.Limits.{mostMonths};
 ghost use Rattle.series.specs.Operations.{minus};
-ghost use Rattle.rows.specs.FilterTables.{table2x12, table3x3, table3x5, tableHenderson};
+ghost use Rattle.rows.specs.declared.SeasonalFilter.the-variants.{ThreeByThree};
+ghost use Rattle.rows.specs.FilterTables.{table2x12, tableSeasonal, tableHenderson};
 ghost use Rattle.filters.specs.Filter.{filter};
 ghost use Rattle.filters.specs.Contracts.{largest, FilterableMonths};
-ghost use Rattle.steps.specs.Choices.{plainMonthly};
+ghost use Rattle.steps.specs.Choices.{plainBy, plainMonthly};
 ghost use Rattle.steps.specs.Steps.{T1, SI1, S1, T2, S2};
 ghost use Rattle.steps.specs.Places.{inner, atMonth, nearestMonth, widened};
 ghost use Rattle.pass.specs.Contracts.{PassSeries, Work, along, LessAlong, Copies, Levels, withoutLevelAt, withoutLevel, OfSI1, OfSI2, Adjustable, PassDone};
+use rows::SeasonalFilter;
 use rows::Terms;
 
 // r at month t less m at month i.
@@ -90,7 +92,7 @@ pub fn first_si(x: &[i64], t1: &mut [i64], si: &mut [i64])
 // Steps 3 and 4: the first seasonal of all months in out, from SI1 as it is filtered, at its own months in si; r and m are work space.
 pub fn seasonal_of_si1(si: &[i64], r: &mut [i64], m: &mut [i64], out: &mut [i64])
     requires { ⌜ OfSI1 6 (now si) (now r) (now m) (now out) ⌝ }
-    ensures { λ _. ⌜ now (out .exit) ≡ widened 6 (withoutLevel 6 table2x12 (filter table3x3 (inner 6 (now (si .entry))))) ⌝ }
+    ensures { λ _. ⌜ now (out .exit) ≡ widened 6 (withoutLevel 6 table2x12 (filter (tableSeasonal ThreeByThree) (inner 6 (now (si .entry))))) ⌝ }
 {
     let past = si.len() - 6;
     filters::three_by_three(6, past, si, r);
@@ -98,13 +100,13 @@ pub fn seasonal_of_si1(si: &[i64], r: &mut [i64], m: &mut [i64], out: &mut [i64]
     widen(out);
 }
 
-// Steps 6 and 7: the seasonal in out, from SI2 as it is filtered; si and r are then work space.
-pub fn seasonal_of_si2(si: &mut [i64], r: &mut [i64], out: &mut [i64])
+// Steps 6 and 7: the seasonal in out, by a filter, from SI2 as it is filtered; si and r are then work space.
+pub fn seasonal_of_si2(chosen: SeasonalFilter, si: &mut [i64], r: &mut [i64], out: &mut [i64])
     requires { ⌜ OfSI2 6 (now si) (now r) (now out) ⌝ }
-    ensures { λ _. ⌜ now (out .exit) ≡ withoutLevel 6 table2x12 (filter table3x5 (now (si .entry))) ⌝ }
+    ensures { λ _. ⌜ now (out .exit) ≡ withoutLevel 6 table2x12 (filter (tableSeasonal chosen) (now (si .entry))) ⌝ }
 {
     let n = si.len();
-    filters::three_by_five(0, n, si, r);
+    filters::seasonal(chosen, 0, n, si, r);
     without_level(0, n, r, si, out);
 }
 
@@ -126,21 +128,35 @@ pub fn trend(terms: Terms, x: &[i64], s: &[i64], a: &mut [i64], out: &mut [i64])
     filters::henderson(terms, a, out);
 }
 
-// Steps 6 and 7: S2 of x in out, from its T2 in t; a and b are work space.
-fn second_seasonal(x: &[i64], t: &[i64], a: &mut [i64], b: &mut [i64], out: &mut [i64])
-    requires { ⌜ PassSeries 6 (now x) × (now t ≡ T2 plainMonthly (now x)) × Work (now x) (now a) (now b) (now out) ⌝ }
-    ensures { λ _. ⌜ now (out .exit) ≡ S2 plainMonthly (now (x .entry)) ⌝ }
+// Steps 6 and 7: S2 of x in out, by a filter, from its T2 in t; a and b are work space.
+fn second_seasonal(
+    chosen: SeasonalFilter,
+    x: &[i64],
+    t: &[i64],
+    a: &mut [i64],
+    b: &mut [i64],
+    out: &mut [i64],
+)
+    requires { ⌜ PassSeries 6 (now x) × (now t ≡ T2 (plainBy chosen) (now x)) × Work (now x) (now a) (now b) (now out) ⌝ }
+    ensures { λ _. ⌜ now (out .exit) ≡ S2 (plainBy chosen) (now (x .entry)) ⌝ }
 {
     series::minus(x, t, a);
-    seasonal_of_si2(a, b, out);
+    seasonal_of_si2(chosen, a, b, out);
 }
 
-// Steps 1 to 7 as passes C and D take them: T2 and S2 of x; a and b are work space.
-pub fn one_pass(x: &[i64], a: &mut [i64], b: &mut [i64], t: &mut [i64], s: &mut [i64])
+// Steps 1 to 7 as passes C and D take them, with a filter in step 6: T2 and S2 of x; a and b are work space.
+pub fn one_pass(
+    chosen: SeasonalFilter,
+    x: &[i64],
+    a: &mut [i64],
+    b: &mut [i64],
+    t: &mut [i64],
+    s: &mut [i64],
+)
     requires { ⌜ PassSeries 6 (now x) × Work (now x) (now a) (now b) (now s) × (length (now t) ≡ length (now x)) ⌝ }
-    ensures { λ _. ⌜ PassDone (now (x .entry)) (now (t .exit)) (now (s .exit)) ⌝ }
+    ensures { λ _. ⌜ PassDone chosen (now (x .entry)) (now (t .exit)) (now (s .exit)) ⌝ }
 {
     first_seasonal(x, a, b, t, s);
     trend(Terms::Thirteen, x, s, a, t);
-    second_seasonal(x, t, a, b, s);
+    second_seasonal(chosen, x, t, a, b, s);
 }

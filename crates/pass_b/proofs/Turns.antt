@@ -14,17 +14,19 @@ use Rattle.series.specs.Operations.{minus}
 use Rattle.series.specs.Contracts.{Minusable}
 use Rattle.series.proofs.Lengths.{length-minus, at-minus}
 use Rattle.series.proofs.Largest.{larger, within-minus, within-pick}
-use Rattle.rows.specs.FilterTables.{table2x12, table3x3, table3x5}
+use Rattle.rows.specs.declared.SeasonalFilter.the-variants.{ThreeByThree, ThreeByFive}
+use Rattle.rows.specs.FilterTables.{table2x12, tableSeasonal}
 use Rattle.filters.specs.Filter.{valueAt, filter}
 use Rattle.filters.specs.Contracts.{Filterable, FilterableMonths}
 use Rattle.filters.proofs.Lengths.{length-filter}
 use Rattle.filters.proofs.ByMonth.{all-months}
 use Rattle.replacing.specs.Replaced.{replacedBy}
-use Rattle.steps.specs.Choices.{MovingAverage, average2x12, average3x3, average3x5, Replacing, none, byWeights, monthly, plainMonthly}
+use Rattle.steps.specs.Choices.{MovingAverage, average2x12, seasonal, none, byWeights, plainMonthly}
 use Rattle.steps.specs.Places.{atMonth}
 use Rattle.steps.specs.ByMonth.{Stands}
 use Rattle.steps.specs.Steps.{level, T1, SI1, R1, M1, innerS1, S1, A1, T2, SI2}
 use Rattle.steps.proofs.Sound.{Norm, Sound, monthly-sound, plain-sound}
+use Rattle.steps.proofs.Shared.{same-si1, same-t2, same-si2}
 use Rattle.steps.proofs.Largest as sizes
 use Rattle.steps.proofs.Lengths.{length-si1, length-si2}
 use Rattle.steps.proofs.ByMonth.{part-inner, stands-months}
@@ -36,19 +38,6 @@ use Rattle.pass.proofs.Stages as stages
 use Rattle.tables.specs.PassB.{irregularB4, startB4, weightsB4, choicesB4, irregularB9, weightsB9, choicesB}
 use Rattle.tables.specs.Bounds.{largestB7}
 use Rattle.pass_b.specs.Contracts.{PassBSeries, largestSI, Weighs}
-
--- ---- SI1 does not look at what is replaced; T2 and SI2 do not look at what is replaced in SI2
-same-si1 : (f : MovingAverage) (r s : Replacing) (x : List ℤ) → SI1 plainMonthly x ≡ SI1 (monthly f r s) x
-unfolding SI1 T1
-same-si1 f r s x = refl
-
-same-t2 : (f : MovingAverage) (r s u : Replacing) (x : List ℤ) → T2 (monthly f r s) x ≡ T2 (monthly f r u) x
-unfolding T2 A1 S1 innerS1 M1 R1 level SI1 T1
-same-t2 f r s u x = refl
-
-same-si2 : (f : MovingAverage) (r s u : Replacing) (x : List ℤ) → SI2 (monthly f r s) x ≡ SI2 (monthly f r u) x
-unfolding SI2
-same-si2 f r s u x = ap (minus x) (same-t2 f r s u x)
 
 -- a series less what a table leaves of it is that table
 pub taken-twice : (x t : List ℤ) → length t ≡ length x → minus x (minus x t) ≡ t
@@ -104,10 +93,10 @@ module _ {start : ℕ} {x : List ℤ} (h : PassBSeries start x) where
   series = record { long = h .long; short = h .short; small = larger (h .small) (omega arith) }
 
   pub sound4 : Sound (choicesB4 start x)
-  sound4 = monthly-sound _ _
+  sound4 = monthly-sound _ _ _
 
   pub sound : Sound (choicesB start x)
-  sound = monthly-sound _ _
+  sound = monthly-sound _ _ _
 
   -- steps 1 and 2: the slice b has SI1 at its own months, and a its 3×3
   pub si1-stands : {o b : List ℤ} → Filled (pos 0) (atMonth 6 (SI1 plainMonthly x)) 6 (length x - 6) o b → length o ≡ length x → Stands 6 (length x) (SI1 plainMonthly x) b
@@ -120,8 +109,8 @@ module _ {start : ℕ} {x : List ℤ} (h : PassBSeries start x) where
     pub si1-part : take (length x - 6 - 6) (drop 6 b) ≡ SI1 plainMonthly x
     si1-part = rw (e .long) at (part-inner 6 b (omega (arith, e .long, h .long))) ∙ e .months
 
-    pub si1-3x3 : {o a : List ℤ} → Filled (pos 0) (valueAt table3x3 6 (length x - 6) b) 6 (length x - 6) o a → length o ≡ length x → take (length x - 6 - 6) (drop 6 a) ≡ filter table3x3 (SI1 plainMonthly x)
-    si1-3x3 {o} {a} f i = let l : length a ≡ length x = f .long ∙ i in rw l at (part-inner 6 a (omega (arith, l, h .long))) ∙ inner-is l (filter-months table3x3 (stands-months e) f)
+    pub si1-3x3 : {o a : List ℤ} → Filled (pos 0) (valueAt (tableSeasonal ThreeByThree) 6 (length x - 6) b) 6 (length x - 6) o a → length o ≡ length x → take (length x - 6 - 6) (drop 6 a) ≡ filter (tableSeasonal ThreeByThree) (SI1 plainMonthly x)
+    si1-3x3 {o} {a} f i = let l : length a ≡ length x = f .long ∙ i in rw l at (part-inner 6 a (omega (arith, l, h .long))) ∙ inner-is l (filter-months (tableSeasonal ThreeByThree) (stands-months e) f)
 
   -- b is the list SI1, and a its 3×3
   module _ {b : List ℤ} (e : b ≡ SI1 plainMonthly x) where
@@ -135,11 +124,11 @@ module _ {start : ℕ} {x : List ℤ} (h : PassBSeries start x) where
     si1-filterable = record { short = omega (arith, h .short, si1-long); small = larger si1-small (omega arith) }
 
     -- from whatever month: that it is the month of t = 6 matters to the weights alone
-    pub weighs1 : {first : ℕ} {a t s : List ℤ} {w : List ℕ} → 1 ≤ first → first ≤ monthsOfYear → a ≡ filter table3x3 b
+    pub weighs1 : {first : ℕ} {a t s : List ℤ} {w : List ℕ} → 1 ≤ first → first ≤ monthsOfYear → a ≡ filter (tableSeasonal ThreeByThree) b
         → length t ≡ length x - 12 → length s ≡ length x - 12 → length w ≡ length x - 12 → Weighs first b a t s w
-    weighs1 i j = weighs average3x3 (plain-sound .seasonal1-norm) si1-long (record { least = omega (arith, h .long); most = omega (arith, h .short); early = i; late = j }) si1-small
+    weighs1 i j = weighs (seasonal ThreeByThree) (plain-sound .seasonal1-norm) si1-long (record { least = omega (arith, h .long); most = omega (arith, h .short); early = i; late = j }) si1-small
 
-    pub weights1 : {a : List ℤ} {w : List ℕ} → a ≡ filter table3x3 b → w ≡ weightsOf (startB4 start) monthsOfYear (minus b (withoutLevel 6 table2x12 a)) → w ≡ weightsB4 start x
+    pub weights1 : {a : List ℤ} {w : List ℕ} → a ≡ filter (tableSeasonal ThreeByThree) b → w ≡ weightsOf (startB4 start) monthsOfYear (minus b (withoutLevel 6 table2x12 a)) → w ≡ weightsB4 start x
     unfolding weightsB4 irregularB4
     weights1 f i = i ∙ ap (weightsOf (startB4 start) monthsOfYear) (ap₂ minus e (stages.to-innerS1 plain-sound series e (ap (withoutLevel 6 table2x12) f)))
 
@@ -148,7 +137,7 @@ module _ {start : ℕ} {x : List ℤ} (h : PassBSeries start x) where
       → Stands 6 (length x) (replacedBy monthsOfYear (weightsB4 start x) (SI1 (choicesB4 start x) x)) a
   replaced1-stands {o} {a} f e =
       stages.si1-stands sound4 series e
-      (subst (λ (l : List ℤ). Filled (pos 0) (atMonth 6 (replacedBy monthsOfYear (weightsB4 start x) l)) 6 (length x - 6) o a) (same-si1 average3x5 (byWeights (weightsB4 start x)) none x) f)
+      (subst (λ (l : List ℤ). Filled (pos 0) (atMonth 6 (replacedBy monthsOfYear (weightsB4 start x) l)) 6 (length x - 6) o a) (same-si1 _ _ none none (byWeights (weightsB4 start x)) x) f)
 
   -- step 6: a holds SI2 and b its 3×5
   module _ {a : List ℤ} (e : a ≡ SI2 (choicesB4 start x) x) where
@@ -164,22 +153,22 @@ module _ {start : ℕ} {x : List ℤ} (h : PassBSeries start x) where
     pub si2-months : FilterableMonths 0 (length x) a
     si2-months = rw si2-long at (all-months si2-filterable)
 
-    pub si2-3x5 : {o b : List ℤ} → Filled (pos 0) (valueAt table3x5 0 (length x) a) 0 (length x) o b → length o ≡ length x → b ≡ filter table3x5 a
-    si2-3x5 f o = whole-is (f .long ∙ o) (filter-months table3x5 (whole-months a si2-long) f)
+    pub si2-3x5 : {o b : List ℤ} → Filled (pos 0) (valueAt (tableSeasonal ThreeByFive) 0 (length x) a) 0 (length x) o b → length o ≡ length x → b ≡ filter (tableSeasonal ThreeByFive) a
+    si2-3x5 f o = whole-is (f .long ∙ o) (filter-months (tableSeasonal ThreeByFive) (whole-months a si2-long) f)
 
     pub si2-minusable : Minusable x a
     si2-minusable = record { short = h .short; long = si2-long; left = larger (h .small) (omega arith); right = larger si2-small (omega arith) }
 
-    pub weighs2 : {b t s : List ℤ} {w : List ℕ} → b ≡ filter table3x5 a → length t ≡ length x → length s ≡ length x → length w ≡ length x → Weighs start a b t s w
-    weighs2 = weighs average3x5 (plain-sound .seasonal2-norm) si2-long (record { least = omega (arith, h .long); most = h .short; early = h .early; late = h .late }) si2-small
+    pub weighs2 : {b t s : List ℤ} {w : List ℕ} → b ≡ filter (tableSeasonal ThreeByFive) a → length t ≡ length x → length s ≡ length x → length w ≡ length x → Weighs start a b t s w
+    weighs2 = weighs (seasonal ThreeByFive) (plain-sound .seasonal2-norm) si2-long (record { least = omega (arith, h .long); most = h .short; early = h .early; late = h .late }) si2-small
 
-    pub weights2 : {b : List ℤ} {w : List ℕ} → b ≡ filter table3x5 a → w ≡ weightsOf start monthsOfYear (minus a (withoutLevel 6 table2x12 b)) → w ≡ weightsB9 start x
+    pub weights2 : {b : List ℤ} {w : List ℕ} → b ≡ filter (tableSeasonal ThreeByFive) a → w ≡ weightsOf start monthsOfYear (minus a (withoutLevel 6 table2x12 b)) → w ≡ weightsB9 start x
     unfolding weightsB9 irregularB9
     weights2 f i = i ∙ ap (weightsOf start monthsOfYear) (ap₂ minus e (stages.to-s2 sound4 series e (ap (withoutLevel 6 table2x12) f)))
 
   -- T2 is that of both turns, and SI2 as it is replaced
   pub to-t2 : {t : List ℤ} → t ≡ T2 (choicesB4 start x) x → t ≡ T2 (choicesB start x) x
-  to-t2 e = e ∙ same-t2 _ _ _ _ x
+  to-t2 e = e ∙ same-t2 _ _ _ _ _ x
 
   pub to-replaced2 : {b : List ℤ} → b ≡ replacedBy monthsOfYear (weightsB9 start x) (SI2 (choicesB4 start x) x) → b ≡ replacedBy monthsOfYear (weightsB9 start x) (SI2 (choicesB start x) x)
-  to-replaced2 e = e ∙ ap (replacedBy monthsOfYear (weightsB9 start x)) (same-si2 _ _ _ _ x)
+  to-replaced2 e = e ∙ ap (replacedBy monthsOfYear (weightsB9 start x)) (same-si2 _ _ _ _ _ x)

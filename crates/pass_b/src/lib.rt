@@ -15,6 +15,7 @@ ghost use Rattle.extremes.specs.Weighing.{weightsOf};
 ghost use Rattle.tables.specs.PassB.{weightsB4, choicesB4};
 ghost use Rattle.pass.specs.Contracts.{withoutLevel};
 ghost use Rattle.pass_b.specs.Contracts.{PassBSeries, PassBSlices, Weighs, SI2Replaced, PassBDone};
+use rows::SeasonalFilter;
 use rows::Terms;
 
 // The weights of what the preliminary seasonal of si leaves of it, from the calendar month of its first value; r holds 3x3 or 3x5 of si. r, t and s
@@ -112,5 +113,5 @@ pub fn pass_b(
     first_seasonal(x, start, a, b, t, s, w);
     pass::trend(Terms::Thirteen, x, s, a, t);
     replaced_si2(x, start, a, b, t, s, w);
-    pass::seasonal_of_si2(b, a, s);
+    pass::seasonal_of_si2(SeasonalFilter::ThreeByFive, b, a, s);
 }

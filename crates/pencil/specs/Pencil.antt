@@ -1,17 +1,23 @@
 -- METHOD 11: the pencil cases, in its order. Each line has what the rules give, and what is written there.
 use mathlib.Core.Path.{_≡_}
 use mathlib.Core.Bool.{cond}
-use mathlib.Core.List.{List, [], _∷_, map}
+use mathlib.Core.List.{List, [], _∷_, _++_, map}
 use Prim.Native.Nat.{ℕ, _+_, _*_, _-_, _%_}
 use lib.Dec.{ltb, eqb}
+use lib.ListN.{replicate}
 use lib.IntN.{ℤ, pos, negsuc, negℤ}
 use Rattle.integers.specs.Lists.{_‼_, tab}
 use Rattle.integers.specs.Rounding.{toGrain}
 use Rattle.filters.specs.Filter.{valueAt, filter, inside}
+use Rattle.rows.specs.declared.SeasonalFilter.{SeasonalFilter}
+use Rattle.rows.specs.declared.SeasonalFilter.the-variants.{ThreeByThree, ThreeByFive, ThreeByNine}
 use Rattle.rows.specs.declared.Terms.{Terms}
 use Rattle.rows.specs.declared.Terms.the-variants.{Nine, Thirteen, TwentyThree}
-use Rattle.rows.specs.FilterTables.{table2x12, table3x3, table3x5, tableHenderson}
+use Rattle.rows.specs.FilterTables.{table2x12, tableSeasonal, tableHenderson}
 use Rattle.trend_length.specs.TrendLength.{monthChanges, termsFor}
+use Rattle.seasonal_choice.specs.declared.Decision.{Decision}
+use Rattle.seasonal_choice.specs.declared.Decision.the-variants.{Decided, Undecided}
+use Rattle.seasonal_choice.specs.SeasonalChoice.{yearChanges, decide, chosenFilter}
 use Rattle.extremes.specs.Spreads.{sizeOf, spread, secondSpread}
 use Rattle.extremes.specs.Weighing.{weight, correctionOf}
 
@@ -28,9 +34,12 @@ abbrev pub wanted : List Case → List (List ℤ)
 wanted [] = []
 wanted ((f gives w) ∷ cs) = w ∷ wanted cs
 
--- 72 months, v at place c and else 0; the numbers at some places
+-- n months, v at place c and else 0; so many as 72; the numbers at some places
+abbrev oneOf : ℕ → ℕ → ℕ → List ℤ
+oneOf n c v = tab n (λ t. cond (eqb t c) (pos v) (pos 0))
+
 abbrev one : ℕ → ℕ → List ℤ
-one c v = tab 72 (λ t. cond (eqb t c) (pos v) (pos 0))
+one c v = oneOf 72 c v
 
 abbrev at : List ℤ → List ℕ → List ℤ
 at x places = map (λ t. x ‼ t) places
@@ -40,7 +49,7 @@ whole = map pos
 
 -- 3×3 of values at the months from 6 to 68 of 75, v at month c and else 0, with a million at every month outside: at some months
 abbrev by3x3 : ℕ → ℕ → List ℕ → List ℤ
-by3x3 c v months = map (valueAt table3x3 6 69 (tab 75 (λ t. cond (ltb t 6) (pos 1_000_000) (cond (ltb t 69) (cond (eqb t c) (pos v) (pos 0)) (pos 1_000_000))))) months
+by3x3 c v months = map (valueAt (tableSeasonal ThreeByThree) 6 69 (tab 75 (λ t. cond (ltb t 6) (pos 1_000_000) (cond (ltb t 69) (cond (eqb t c) (pos v) (pos 0)) (pos 1_000_000))))) months
 
 -- the 2×12 value of place t stands at t - 6
 abbrev at2x12 : List ℤ → List ℕ → List ℤ
@@ -93,6 +102,31 @@ count TwentyThree = 23
 abbrev countFor : ℕ → ℕ → ℕ
 countFor i c = count (termsFor i c)
 
+-- METHOD 4.6: the squares of t, of n months; what a question answers, and a filter, by a number: 33, 35 or 39, and 0 for none
+abbrev squaresOf : ℕ → List ℤ
+squaresOf n = tab n (λ t. pos (t * t))
+
+abbrev filterNumber : SeasonalFilter → ℕ
+filterNumber ThreeByThree = 33
+filterNumber ThreeByFive = 35
+filterNumber ThreeByNine = 39
+
+abbrev answerNumber : Decision → ℕ
+answerNumber (Decided f) = filterNumber f
+answerNumber Undecided = 0
+
+abbrev answerTo : ℕ → ℕ → ℕ
+answerTo i s = answerNumber (decide i s)
+
+-- METHOD 4.6: a table of years whose months are alike, the first year 0 and the others above the one before by so much; the filter that is chosen by an
+-- irregular with such yearly changes and a seasonal that rises by 2 from year to year
+abbrev yearly : ℕ → List ℕ → List ℤ
+yearly y [] = replicate 12 (pos y)
+yearly y (d ∷ ds) = replicate 12 (pos y) ++ yearly (y + d) ds
+
+abbrev chosenFor : List ℕ → ℕ
+chosenFor changes = filterNumber (chosenFilter 12 (yearly 0 changes) (yearly 0 (map (λ _. 2) changes)))
+
 -- METHOD 11: the list
 unfoldable pub pencil : List Case
 pencil =
@@ -116,19 +150,23 @@ pencil =
     ∷ (hendersonFirst Thirteen 6 gives outermost13)
     ∷ (hendersonFirst TwentyThree 11 gives outermost23)
     -- 3×3, the last value of a run 27,000: the last three results. The run of places 11, 23, .. ends with 35, 47, 59, 71
-    ∷ (at (filter table3x3 (one 71 27_000)) (47 ∷ 59 ∷ 71 ∷ []) gives whole (3000 ∷ 7000 ∷ 11_000 ∷ []))
+    ∷ (at (filter (tableSeasonal ThreeByThree) (one 71 27_000)) (47 ∷ 59 ∷ 71 ∷ []) gives whole (3000 ∷ 7000 ∷ 11_000 ∷ []))
     -- 3×3 by month, where the months from 6 to 68 have values: 27,000 at the first of the run of 12, and at the last of the runs of 8 and 12
     ∷ (by3x3 12 27_000 (12 ∷ 24 ∷ 36 ∷ []) gives whole (11_000 ∷ 7000 ∷ 3000 ∷ []))
     ∷ (by3x3 68 27_000 (44 ∷ 56 ∷ 68 ∷ []) gives whole (3000 ∷ 7000 ∷ 11_000 ∷ []))
     ∷ (by3x3 60 27_000 (36 ∷ 48 ∷ 60 ∷ []) gives whole (3000 ∷ 7000 ∷ 11_000 ∷ []))
     -- 3×5, the last value of a run 60,000: the last four results
-    ∷ (at (filter table3x5 (one 71 60_000)) (35 ∷ 47 ∷ 59 ∷ 71 ∷ []) gives whole (4000 ∷ 9000 ∷ 15_000 ∷ 17_000 ∷ []))
+    ∷ (at (filter (tableSeasonal ThreeByFive) (one 71 60_000)) (35 ∷ 47 ∷ 59 ∷ 71 ∷ []) gives whole (4000 ∷ 9000 ∷ 15_000 ∷ 17_000 ∷ []))
+    -- 3×9 of 72 months, the last value of a run 162,000: its six results; of 132 months, 748,440 at the sixth of eleven values of a run: all eleven
+    ∷ (at (filter (tableSeasonal ThreeByNine) (one 71 162_000)) (11 ∷ 23 ∷ 35 ∷ 47 ∷ 59 ∷ 71 ∷ []) gives whole (18_000 ∷ 22_000 ∷ 27_000 ∷ 27_000 ∷ 28_000 ∷ 30_000 ∷ []))
+    ∷ (at (filter (tableSeasonal ThreeByNine) (oneOf 132 60 748_440)) (tab 11 (λ y. 12 * y))
+    gives whole (83_160 ∷ 91_080 ∷ 103_950 ∷ 92_400 ∷ 85_932 ∷ 83_160 ∷ 85_932 ∷ 92_400 ∷ 103_950 ∷ 91_080 ∷ 83_160 ∷ []))
     -- rounding to a grain: 1/2 and -1/2 to 0, 3/2 to 2, -3/2 to -2
     ∷ (toGrain (pos 1) 2 ∷ toGrain (negsuc 0) 2 ∷ [] gives whole (0 ∷ 0 ∷ []))
     ∷ (toGrain (pos 3) 2 ∷ toGrain (negsuc 2) 2 ∷ [] gives (pos 2 ∷ negsuc 1 ∷ []))
     -- filters that come to halves: 2×12 of 12, 1 and twice 1/2; 3×5 of a last value of 30, 2, 9/2, 15/2 and 17/2; Henderson of 8,398
     ∷ (at2x12 (one 30 12) (30 ∷ 24 ∷ 36 ∷ []) gives whole (1 ∷ 0 ∷ 0 ∷ []))
-    ∷ (at (filter table3x5 (one 71 30)) (35 ∷ 47 ∷ 59 ∷ 71 ∷ []) gives whole (2 ∷ 4 ∷ 8 ∷ 8 ∷ []))
+    ∷ (at (filter (tableSeasonal ThreeByFive) (one 71 30)) (35 ∷ 47 ∷ 59 ∷ 71 ∷ []) gives whole (2 ∷ 4 ∷ 8 ∷ 8 ∷ []))
     ∷ (hendersonHalves 30 gives (pos 2016 ∷ pos 1238 ∷ pos 1238 ∷ negsuc 161 ∷ negsuc 161 ∷ []))
     -- the weights by σ 100 of a 149, 150, 200, 250, 251
     ∷ (whole (map (weight 100) (149 ∷ 150 ∷ 200 ∷ 250 ∷ 251 ∷ [])) gives whole (1000 ∷ 1000 ∷ 500 ∷ 0 ∷ 0 ∷ []))
@@ -149,6 +187,16 @@ pencil =
     -- the terms for sums I and C of 0 and 0, 0 and 1, 99 and 100, 100 and 100, 349 and 100, 350 and 100, 1 and 0
     ∷ (whole (countFor 0 0 ∷ countFor 0 1 ∷ countFor 99 100 ∷ countFor 100 100 ∷ countFor 349 100 ∷ countFor 350 100 ∷ countFor 1 0 ∷ [])
     gives whole (13 ∷ 9 ∷ 9 ∷ 13 ∷ 13 ∷ 23 ∷ 23 ∷ []))
+    -- the sum of the sizes of changes over twelve months, of squares: 12, 13, 14 and 15 months
+    ∷ (whole (map (λ n. yearChanges 12 (squaresOf n)) (12 ∷ 13 ∷ 14 ∷ 15 ∷ [])) gives whole (0 ∷ 144 ∷ 312 ∷ 504 ∷ []))
+    -- the answers to sums I and S of 0 and 0, 1 and 0, 0 and 1; and of S 10 with I 24, 25, 35, 36, 54, 55, 64, 65
+    ∷ (whole (answerTo 0 0 ∷ answerTo 1 0 ∷ answerTo 0 1 ∷ map (λ i. answerTo i 10) (24 ∷ 25 ∷ 35 ∷ 36 ∷ 54 ∷ 55 ∷ 64 ∷ 65 ∷ []))
+    gives whole (35 ∷ 39 ∷ 33 ∷ 33 ∷ 0 ∷ 0 ∷ 35 ∷ 35 ∷ 0 ∷ 0 ∷ 39 ∷ []))
+    -- the filters by yearly changes of C13: at the first question, the second, third, fourth and sixth; at none; of 72 months the sixth has no change
+    ∷ (whole (chosenFor (4 ∷ 4 ∷ 4 ∷ 4 ∷ 4 ∷ []) ∷ chosenFor (4 ∷ 4 ∷ 4 ∷ 4 ∷ 49 ∷ []) ∷ []) gives whole (33 ∷ 39 ∷ []))
+    ∷ (whole (chosenFor (4 ∷ 4 ∷ 4 ∷ 4 ∷ 9 ∷ []) ∷ chosenFor (4 ∷ 4 ∷ 4 ∷ 6 ∷ 17 ∷ []) ∷ chosenFor (4 ∷ 4 ∷ 4 ∷ 4 ∷ 39 ∷ []) ∷ []) gives whole (33 ∷ 33 ∷ 33 ∷ []))
+    ∷ (whole (chosenFor (14 ∷ 13 ∷ 13 ∷ 11 ∷ 11 ∷ []) ∷ chosenFor (8 ∷ 8 ∷ 4 ∷ 4 ∷ 1 ∷ []) ∷ chosenFor (4 ∷ 6 ∷ 6 ∷ 6 ∷ 6 ∷ 6 ∷ []) ∷ []) gives whole (39 ∷ 35 ∷ 33 ∷ []))
+    ∷ (whole (chosenFor (4 ∷ 6 ∷ 6 ∷ 6 ∷ 6 ∷ 6 ∷ 6 ∷ []) ∷ chosenFor (6 ∷ 6 ∷ 6 ∷ 6 ∷ 6 ∷ []) ∷ []) gives whole (35 ∷ 35 ∷ []))
     ∷ []
 
 -- the whole list holds (shown in proofs/Cases.antt)

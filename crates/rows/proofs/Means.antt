@@ -6,7 +6,7 @@ use native.Mathlib.Omega.{arith}
 use lib.Dec.{T, ltb, eqb, ltb→lt, eqb→eq}
 use lib.IntN.{ℤ, pos, negsuc, natAbs}
 use Rattle.integers.specs.Sums.{sumZ, sumN, norm}
-use Rattle.rows.specs.Table.{Table, rowWeight, denominator}
+use Rattle.rows.specs.Table.{Table, rowCount, rowWeight, denominator}
 use Rattle.rows.proofs.RowTests.{left, right, all, all-at, Fair}
 
 -- ---- m weights w over d
@@ -38,7 +38,7 @@ mean L F r =
     (ltb 0 d && eqb (d * (L / d)) L) && (all m (λ k. noneBelow (rowWeight F r k)) && is d (sumZ m (rowWeight F r)))
 
 abbrev pub AllMeans : ℕ → Table → Type 0
-AllMeans L F = T (all (2 * F .side + 1) (mean L F))
+AllMeans L F = T (all (rowCount F) (mean L F))
 
 is-so : (d : ℕ) (z : ℤ) → T (is d z) → z ≡ pos d
 is-so d (pos n) t = ap pos (eqb→eq n d t)

@@ -6,7 +6,7 @@ use Prim.Native.Nat.{ℕ, zero, suc, _+_, _*_, _/_, _≤_, _<_}
 use native.Mathlib.Nat.{eq-or-lt-of-le, not-suc-le-zero, le-of-suc-le-suc}
 use lib.Dec.{T, ltb, leb, eqb, leb→le, ltb→lt, eqb→eq}
 use Rattle.integers.specs.Sums.{norm}
-use Rattle.rows.specs.Table.{Table, rowWeight, denominator}
+use Rattle.rows.specs.Table.{Table, rowCount, rowWeight, denominator}
 
 pub left : (a b : Bool) → T (a && b) → T a
 left true b t = tt
@@ -34,7 +34,7 @@ fair L N F r =
     && (eqb (denominator F r * (L / denominator F r)) L && leb (norm (2 * F .side + 1) (rowWeight F r) * 1000) (N * denominator F r))
 
 abbrev pub AllFair : ℕ → ℕ → Table → Type 0
-AllFair L N F = T (all (2 * F .side + 1) (fair L N F))
+AllFair L N F = T (all (rowCount F) (fair L N F))
 
 -- what the test shows of a row with denominator d, the sizes of its weights, or of the first of them, summing to a
 pub record Fair (L N d a : ℕ) : Type 0 where

@@ -12,7 +12,7 @@ use Rattle.integers.specs.Sums.{sumZ}
 use Rattle.series.specs.Operations.{times}
 use Rattle.rows.specs.declared.Terms.{Terms}
 use Rattle.rows.specs.declared.Terms.the-variants.{Nine, Thirteen, TwentyThree}
-use Rattle.rows.specs.Table.{Table, rowWeight, denominator}
+use Rattle.rows.specs.Table.{Table, denominator, middleWeights}
 use Rattle.rows.specs.FilterTables.{tableHenderson, overHenderson}
 
 -- ---- METHOD 2.5, the closed formula, m being two more than the terms of one side. The weight i places from the middle one is closedNumerator m i over
@@ -93,17 +93,13 @@ indexOf TwentyThree = 2
 abbrev pub exactLengths : List Terms
 exactLengths = Nine ∷ Thirteen ∷ []
 
--- the middle row of a table
-abbrev pub middleRow : Table → List ℤ
-middleRow F = tab (F .width) (rowWeight F (F .side))
-
 pub record HendersonRule : Type 0 where
   -- every length stands in the list
   pub complete : (terms : Terms) → getD hendersonLengths (indexOf terms) Nine ≡ terms
   -- METHOD 2.7: the stored rows of all lengths follow from the closed formula and Musgrave's rule, shown for whole tables at once
   pub musgrave : map (λ terms. tableHenderson terms .rows) hendersonLengths ≡ map (λ terms. rowsByRule (musgraveD terms) (tableHenderson terms)) hendersonLengths
   -- METHOD 2.7: the middle rows of 9 and 13 terms are the closed formula, nothing being rounded
-  pub closed-formula : map (λ terms. let F = tableHenderson terms in times (closedDenominator (F .side + 2)) (middleRow F)) exactLengths
+  pub closed-formula : map (λ terms. let F = tableHenderson terms in times (closedDenominator (F .side + 2)) (middleWeights F)) exactLengths
       ≡ map (λ terms. let F = tableHenderson terms in times (F .middle) (tab (F .width) (exactNumerator (F .side)))) exactLengths
   -- METHOD 6.1: the denominator of the exact working is a multiple of those of the rows
   pub multiple : map (λ terms. let F = tableHenderson terms in overHenderson % F .middle + overHenderson % F .ends) hendersonLengths

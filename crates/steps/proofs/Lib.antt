@@ -1,5 +1,6 @@
 -- Laws of a pass, by its choices.
 pub mod Sound
+pub mod Shared
 pub mod Lengths
 pub mod ByMonth
 pub mod Largest

@@ -3,9 +3,11 @@ use mathlib.Core.Path.{_≡_, refl}
 use Prim.Native.Nat.{ℕ, _≤_}
 use native.Mathlib.Omega.{arith}
 use Rattle.filters.specs.Filter.{reach}
+use Rattle.rows.specs.declared.SeasonalFilter.{SeasonalFilter}
+use Rattle.rows.specs.declared.SeasonalFilter.the-variants.{ThreeByThree}
 use Rattle.rows.specs.FilterTables.{table2x12}
-use Rattle.filters.proofs.Light.{Light, light2x12, light3x3, light3x5, lightThirteen}
-use Rattle.steps.specs.Choices.{MovingAverage, average3x5, Replacing, none, Choices, monthly, plainMonthly}
+use Rattle.filters.proofs.Light.{Light, light2x12, lightSeasonal, lightThirteen}
+use Rattle.steps.specs.Choices.{MovingAverage, Replacing, none, Choices, monthly, plainMonthly}
 
 -- the sizes of the weights of each row sum to at most N thousandths
 abbrev pub Norm : ℕ → MovingAverage → Type 0
@@ -21,17 +23,17 @@ pub record Sound (c : Choices) : Type 0 where
   pub year-least : 2 ≤ c .halfYear
   pub reach-is : reach (c .yearly .table) ≡ c .halfYear
 
--- the choices of every pass are sound, whatever is replaced
-pub monthly-sound : (r s : Replacing) → Sound (monthly average3x5 r s)
+-- the choices of every pass are sound, whatever is replaced and whichever filter step 6 takes
+pub monthly-sound : (f : SeasonalFilter) (r s : Replacing) → Sound (monthly f r s)
 unfolding reach table2x12
-monthly-sound r s = record {
+monthly-sound f r s = record {
   yearly-norm = light2x12;
-  seasonal1-norm = light3x3;
+  seasonal1-norm = lightSeasonal ThreeByThree;
   trend-norm = lightThirteen;
-  seasonal2-norm = light3x5;
+  seasonal2-norm = lightSeasonal f;
   year-least = omega arith;
   reach-is = refl;
 }
 
 pub plain-sound : Sound plainMonthly
-plain-sound = monthly-sound none none
+plain-sound = monthly-sound _ none none

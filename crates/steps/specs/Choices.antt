@@ -4,25 +4,25 @@ use mathlib.Core.List.{List}
 use Prim.Native.Nat.{ℕ, _*_}
 use lib.IntN.{ℤ}
 use Rattle.replacing.specs.Replaced.{common, replacedBy, exactReplacedBy}
+use Rattle.rows.specs.declared.SeasonalFilter.{SeasonalFilter}
+use Rattle.rows.specs.declared.SeasonalFilter.the-variants.{ThreeByThree, ThreeByFive}
 use Rattle.rows.specs.declared.Terms.{Terms}
 use Rattle.rows.specs.declared.Terms.the-variants.{Thirteen}
 use Rattle.rows.specs.Table.{Table}
-use Rattle.rows.specs.FilterTables.{table2x12, table3x3, table3x5, tableHenderson, overHenderson}
+use Rattle.rows.specs.FilterTables.{table2x12, tableSeasonal, overSeasonal, tableHenderson, overHenderson}
 
 -- a moving average: its rows, and the denominator of its exact working, a multiple of those of the rows
 pub record MovingAverage : Type 0 where
   pub table : Table
   pub over : ℕ
 
--- 2×12, 3×3 and 3×5 (METHOD 2.2 to 2.4)
+-- 2×12 (METHOD 2.2)
 abbrev pub average2x12 : MovingAverage
 average2x12 = record { table = table2x12; over = 24 }
 
-abbrev pub average3x3 : MovingAverage
-average3x3 = record { table = table3x3; over = 27 }
-
-abbrev pub average3x5 : MovingAverage
-average3x5 = record { table = table3x5; over = 60 }
+-- a seasonal filter: 3×3, 3×5 or 3×9 (METHOD 2.3, 2.4, 2.8)
+abbrev pub seasonal : SeasonalFilter → MovingAverage
+seasonal f = record { table = tableSeasonal f; over = overSeasonal }
 
 -- Henderson's filter of so many terms, with its ends (METHOD 2.5, 2.6)
 abbrev pub henderson : Terms → MovingAverage
@@ -65,20 +65,23 @@ pub record Choices : Type 0 where
   pub replacing1 : Replacing
   pub replacing2 : Replacing
 
--- a pass over months: 2×12, 3×3 in step 3, Henderson's 13 terms in step 5; what is given is the filter of step 6, 3×5 in every pass, and what is
--- replaced
-abbrev pub monthly : MovingAverage → Replacing → Replacing → Choices
-monthly seasonal2 replacing1 replacing2 =
+-- a pass over months: 2×12, 3×3 in step 3, Henderson's 13 terms in step 5; what is given is the filter of step 6 and what is replaced
+abbrev pub monthly : SeasonalFilter → Replacing → Replacing → Choices
+monthly f replacing1 replacing2 =
     record {
       halfYear = 6;
       yearly = average2x12;
-      seasonal1 = average3x3;
+      seasonal1 = seasonal ThreeByThree;
       trend = henderson Thirteen;
-      seasonal2 = seasonal2;
+      seasonal2 = seasonal f;
       replacing1 = replacing1;
       replacing2 = replacing2;
     }
 
--- METHOD 3.1 to 3.7 with 3×5 in step 6, where no value of SI1 and SI2 is replaced: passes C and D (3.10), and in pass B the weighing of SI1 (3.8)
+-- METHOD 3.1 to 3.7 where no value of SI1 and SI2 is replaced (3.10), with the filter f in step 6: pass D
+abbrev pub plainBy : SeasonalFilter → Choices
+plainBy f = monthly f none none
+
+-- the same with 3×5 in step 6: pass C, and in pass B the weighing of SI1 (3.8)
 abbrev pub plainMonthly : Choices
-plainMonthly = monthly average3x5 none none
+plainMonthly = plainBy ThreeByFive

@@ -39,7 +39,7 @@ module _ (c : Choices) (x : List ℤ) where
   unfoldable pub exactSI1 : List ℤ
   exactSI1 = minus (times (c .yearly .over) (inner (c .halfYear) x)) exactT1
 
-  -- R1 (METHOD 3.3), over overR1: 24 * 27, and `common` times as much where SI1 is replaced
+  -- R1 (METHOD 3.3), over overR1: 24 * 748,440, and `common` times as much where SI1 is replaced
   unfoldable pub exactR1 : List ℤ
   exactR1 = exact (c .seasonal1 .table) (c .seasonal1 .over) (exactReplaced (c .halfYear) (c .replacing1) exactSI1)
 

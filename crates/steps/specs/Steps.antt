@@ -56,7 +56,7 @@ module _ (c : Choices) (x : List ℤ) where
   abbrev pub filteredSI2 : List ℤ
   filteredSI2 = replaced (c .halfYear) (c .replacing2) SI2
 
-  -- METHOD 3.6: R2, the seasonal before it is centred, is 3×5 of it, run by run, over all n months
+  -- METHOD 3.6: R2, the seasonal before it is centred, is 3×5 of it, in pass D the filter chosen, run by run, over all n months
   unfoldable pub R2 : List ℤ
   R2 = filter (c .seasonal2 .table) filteredSI2
 

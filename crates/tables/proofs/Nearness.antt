@@ -10,18 +10,19 @@ use Rattle.integers.proofs.Differences.{rep, ringℤ}
 use Rattle.integers.specs.Lists.{_‼_}
 use Rattle.series.specs.Operations.{minus}
 use Rattle.series.specs.Distance.{Close}
-use Rattle.series.proofs.Distances.{close-self, close-times, close-minus, close-less}
+use Rattle.series.proofs.Distances.{close-self, close-times, close-minus, close-less, grains}
 use Rattle.series.proofs.Lengths.{length-minus, at-minus}
+use Rattle.rows.specs.declared.SeasonalFilter.{SeasonalFilter}
 use Rattle.rows.specs.declared.Terms.{Terms}
 use Rattle.rows.specs.FilterTables.{overHenderson}
 use Rattle.filters.proofs.Light.{lightHenderson}
-use Rattle.steps.specs.Choices.{henderson}
+use Rattle.steps.specs.Choices.{none, henderson}
 use Rattle.steps.specs.Steps.{S2}
-use Rattle.steps.specs.Exact.{overS2, exactS2}
-use Rattle.steps.proofs.Sound.{monthly-sound, plain-sound}
+use Rattle.steps.specs.Exact.{exactS2}
+use Rattle.steps.proofs.Sound.{Sound, monthly-sound, plain-sound}
 use Rattle.steps.proofs.Distances.{near, own-s2, close-norm}
-use Rattle.tables.specs.Tables.{choicesD, B1, B7, B10, C1, C7, C10, D1, D10, D11, finalTerms, D12, D13}
-use Rattle.tables.specs.Exact.{overE, E10, E11, E12, E13}
+use Rattle.tables.specs.Tables.{choicesD, B1, B7, B10, C1, C7, C10, D1, finalSeasonal, D10, D11, finalTerms, D12, D13}
+use Rattle.tables.specs.Exact.{overD10, overE, E10, E11, E12, E13}
 use Rattle.tables.specs.Nearness.{PassesNear, NearAt}
 use Rattle.tables.proofs.Sizes.{length-b1}
 
@@ -42,12 +43,16 @@ farD13 = farS2 + farD12
 abbrev farB7 : ℕ
 farB7 = 5050
 
+-- the choices of pass D are sound
+sound-d : (g : SeasonalFilter) → Sound (choicesD g)
+sound-d g = monthly-sound g none none
+
 pub passes-near : (start : ℕ) (f : List ℤ) → PassesNear start f
 unfolding B7 B10 C7 C10 D10
 passes-near start f = record {
-  pass-b = near (monthly-sound _ _) (B1 start f) farB7 (omega arith) _ _ (omega arith) (omega arith);
+  pass-b = near (monthly-sound _ _ _) (B1 start f) farB7 (omega arith) _ _ (omega arith) (omega arith);
   pass-c = near plain-sound (C1 start f) farT2 (omega arith) _ _ (omega arith) (omega arith);
-  pass-d = near plain-sound (D1 start f) farT2 (omega arith) _ _ (omega arith) (omega arith);
+  pass-d = near (sound-d _) (D1 start f) farT2 (omega arith) _ _ (omega arith) (omega arith);
 }
 
 -- seasonal, trend and irregular are the series
@@ -63,25 +68,28 @@ module _ (start : ℕ) (f : List ℤ) where
   abbrev d1 : List ℤ
   d1 = D1 start f
 
+  abbrev g : SeasonalFilter
+  g = finalSeasonal start f
+
   abbrev terms : Terms
   terms = finalTerms start f
 
-  s2 : Close farS2 (overS2 choicesD) (S2 choicesD d1) (exactS2 choicesD d1)
-  s2 = own-s2 plain-sound d1 farT2 (omega arith)
+  s2 : Close farS2 (overD10 g) (S2 (choicesD g) d1) (exactS2 (choicesD g) d1)
+  s2 = own-s2 (sound-d g) d1 farT2 (omega arith)
 
-  d10 : Close farS2 overE (D10 start f) (E10 d1)
+  d10 : Close farS2 (overE g) (D10 start f) (E10 g d1)
   unfolding D10 E10
   d10 = close-times overHenderson s2
 
-  d11 : Close farS2 overE (D11 start f) (E11 b1 d1)
+  d11 : Close farS2 (overE g) (D11 start f) (E11 g b1 d1)
   unfolding D11 E11
-  d11 = close-less overE (close-self b1) d10 (le-refl farS2) refl
+  d11 = close-less (overE g) (close-self b1) d10 (le-refl farS2) refl
 
-  d12 : Close farD12 overE (D12 start f) (E12 b1 d1 terms)
+  d12 : Close farD12 (overE g) (D12 start f) (E12 g b1 d1 terms)
   unfolding D12 D10 E12
-  d12 = close-norm (close-less (overS2 choicesD) (close-self d1) s2 (le-refl farS2) refl) (henderson terms) 1440 farD12 (lightHenderson terms) (omega arith)
+  d12 = close-norm (close-less (overD10 g) (close-self d1) s2 (le-refl farS2) refl) (henderson terms) 1440 farD12 (lightHenderson terms) (omega arith)
 
-  d13 : Close farD13 overE (D13 start f) (E13 b1 d1 terms)
+  d13 : Close farD13 (overE g) (D13 start f) (E13 g b1 d1 terms)
   unfolding D13 E13
   d13 = close-minus d11 d12
 
@@ -90,11 +98,11 @@ module _ (start : ℕ) (f : List ℤ) where
   adds-up t h = adds b1 (D10 start f) (D12 start f) t h
 
   -- the tables of the rules, at each month
-  pub near-at : (t : ℕ) → t < length f → NearAt b1 d1 terms (D10 start f) (D11 start f) (D12 start f) (D13 start f) t
+  pub near-at : (t : ℕ) → t < length f → NearAt g terms b1 d1 (D10 start f) (D11 start f) (D12 start f) (D13 start f) t
   near-at t h = record {
-    seasonal = omega (arith, d10 .close t);
-    adjusted = omega (arith, d11 .close t);
-    trend = omega (arith, d12 .close t);
-    irregular = omega (arith, d13 .close t);
+    seasonal = grains 10 (omega arith) d10 .at t;
+    adjusted = grains 10 (omega arith) d11 .at t;
+    trend = grains 15 (omega arith) d12 .at t;
+    irregular = grains 25 (omega arith) d13 .at t;
     adds-up = adds-up t (omega (arith, length-b1 start f));
   }

@@ -15,12 +15,12 @@ use Rattle.steps.specs.Choices.{Choices, plainMonthly}
 use Rattle.steps.specs.Steps.{SI1, innerS1, T2, SI2, S2}
 use Rattle.steps.proofs.Sound.{Sound, monthly-sound}
 use Rattle.steps.proofs.Largest as pass
-use Rattle.steps.proofs.Lengths.{length-si1, length-t2, length-si2}
+use Rattle.steps.proofs.Lengths.{length-si1, length-t2, length-si2, length-s2}
 use Rattle.extremes.specs.Weighing.{correctionOf}
 use Rattle.extremes.proofs.WeighingLaws.{correction-within}
 use Rattle.tables.specs.PassB.{irregularB4, choicesB4, irregularB9}
 use Rattle.tables.specs.Tables.{choicesC, irregularOf, corrections, B1, B7, B10, B13, B20, C1, C7, C10, C13, C20, D1}
-use Rattle.tables.specs.Bounds.{largestB1, largestB7, largestC1, largestC7, largestC13, largestD1}
+use Rattle.tables.specs.Bounds.{largestB1, largestB7, largestC1, largestC7, largestC10, largestC13, largestD1}
 
 -- ---- what a seasonal and a trend leave, and its corrections
 pub length-irregular : (b1 s t : List ℤ) → length (irregularOf b1 s t) ≡ length b1
@@ -62,6 +62,10 @@ module _ (start : ℕ) (f : List ℤ) where
   unfolding C7
   length-c7 = length-t2 choicesC (C1 start f) ∙ length-c1
 
+  pub length-c10 : length (C10 start f) ≡ length f
+  unfolding C10
+  length-c10 = length-s2 choicesC (C1 start f) ∙ length-c1
+
   pub length-c13 : length (C13 start f) ≡ length f
   unfolding C13
   length-c13 = length-irregular (B1 start f) (C10 start f) (C7 start f) ∙ length-b1
@@ -86,15 +90,19 @@ module _ (start : ℕ) {f : List ℤ} (h : AllWithin largestFigure f) where
 
   pub within-c1 : AllWithin largestC1 (C1 start f)
   unfolding C1 B20 B13 B10 B7
-  within-c1 = within-corrected (within-left (monthly-sound _ _) within-b1 largestB7 (omega arith)) _
+  within-c1 = within-corrected (within-left (monthly-sound _ _ _) within-b1 largestB7 (omega arith)) _
 
   pub within-c7 : AllWithin largestC7 (C7 start f)
   unfolding C7
-  within-c7 = pass.t2 (monthly-sound _ _) within-c1 largestC7 (omega arith)
+  within-c7 = pass.t2 (monthly-sound _ _ _) within-c1 largestC7 (omega arith)
+
+  pub within-c10 : AllWithin largestC10 (C10 start f)
+  unfolding C10
+  within-c10 = pass.s2 (monthly-sound _ _ _) within-c1 largestC7 (omega arith)
 
   pub within-c13 : AllWithin largestC13 (C13 start f)
   unfolding C13 C10 C7
-  within-c13 = within-left (monthly-sound _ _) within-c1 largestC7 (omega arith)
+  within-c13 = within-left (monthly-sound _ _ _) within-c1 largestC7 (omega arith)
 
   pub within-d1 : AllWithin largestD1 (D1 start f)
   unfolding D1 C20

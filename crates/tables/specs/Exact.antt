@@ -1,32 +1,39 @@
--- METHOD 6.2: the exact working of the results, from B1, D1 and the length of D12's filter alone, as whole numbers over one denominator.
+-- METHOD 6.2: the exact working of the results, from B1, D1, the seasonal filter of pass D and the length of D12's filter alone, as whole numbers over
+-- one denominator.
 use mathlib.Core.List.{List}
 use Prim.Native.Nat.{ℕ, _*_}
 use lib.IntN.{ℤ}
 use Rattle.series.specs.Operations.{minus, times}
+use Rattle.rows.specs.declared.SeasonalFilter.{SeasonalFilter}
 use Rattle.rows.specs.declared.Terms.{Terms}
 use Rattle.rows.specs.FilterTables.{tableHenderson, overHenderson}
 use Rattle.filters.specs.Filter.{exact}
 use Rattle.steps.specs.Exact.{overS2, exactS2}
 use Rattle.tables.specs.Tables.{choicesD}
 
--- the denominator of E10 to E13, the same for all lengths
-abbrev pub overE : ℕ
-overE = overS2 choicesD * overHenderson
+-- f is the seasonal filter of pass D
+module _ (f : SeasonalFilter) where
+  -- the denominators of the exact S2 of pass D and of E10 to E13: each is one number, whatever f is
+  abbrev pub overD10 : ℕ
+  overD10 = overS2 (choicesD f)
 
--- METHOD 6.2: E10, the exact seasonal, is the exact S2 of D1
-unfoldable pub E10 : List ℤ → List ℤ
-E10 d1 = times overHenderson (exactS2 choicesD d1)
+  abbrev pub overE : ℕ
+  overE = overD10 * overHenderson
 
-module _ (b1 d1 : List ℤ) where
+  -- METHOD 6.2: E10, the exact seasonal, is the exact S2 of D1, by that filter
+  unfoldable pub E10 : List ℤ → List ℤ
+  E10 d1 = times overHenderson (exactS2 (choicesD f) d1)
+
+module _ (f : SeasonalFilter) (b1 d1 : List ℤ) where
   -- METHOD 6.2: E11, the adjusted figure by it, is B1 less E10
   unfoldable pub E11 : List ℤ
-  E11 = minus (times overE b1) (E10 d1)
+  E11 = minus (times (overE f) b1) (E10 f d1)
 
   -- `terms` is the length of D12's filter
   module _ (terms : Terms) where
     -- METHOD 6.2: E12, the exact trend-cycle, is the exact Henderson of the difference D1 less E10, by the filter of that length
     unfoldable pub E12 : List ℤ
-    E12 = exact (tableHenderson terms) overHenderson (minus (times (overS2 choicesD) d1) (exactS2 choicesD d1))
+    E12 = exact (tableHenderson terms) overHenderson (minus (times (overD10 f) d1) (exactS2 (choicesD f) d1))
 
     -- METHOD 6.2: E13, the exact irregular, is E11 less E12
     unfoldable pub E13 : List ℤ

@@ -1,5 +1,5 @@
--- METHOD 4.4: a flooded January, worked through pass B; METHOD 4.5: the length of a final trend (shown in proofs/Examples.antt). The numbers are
--- those of the separately written program.
+-- METHOD 4.4: a flooded January, worked through pass B; METHOD 4.5 and 4.6: the final trend's length and the final seasonal filter of a series (shown
+-- in proofs/Examples.antt). The numbers are those of the separately written program.
 use mathlib.Core.Path.{_≡_}
 use mathlib.Core.Bool.{cond}
 use mathlib.Core.List.{List, [], _∷_, map}
@@ -9,11 +9,12 @@ use lib.ListN.{getD}
 use lib.IntN.{ℤ, pos, negℤ}
 use Rattle.integers.specs.Lists.{tab}
 use Rattle.refusals.specs.Limits.{monthsOfYear}
+use Rattle.rows.specs.declared.SeasonalFilter.the-variants.{ThreeByFive}
 use Rattle.rows.specs.declared.Terms.the-variants.{Thirteen}
 use Rattle.steps.specs.Choices.{plainMonthly}
 use Rattle.steps.specs.Steps.{S2}
 use Rattle.tables.specs.PassB.{weightsB4, weightsB9}
-use Rattle.tables.specs.Tables.{B1, B10, finalTerms, D12}
+use Rattle.tables.specs.Tables.{B1, B10, finalSeasonal, finalTerms, D12}
 
 -- METHOD 4.4: 72 figures from start month 7, each 1,000 and the remainder of t times t by 17; but 500 at t = 18, the second January
 unfoldable pub flooded : List ℤ
@@ -32,12 +33,13 @@ pub record FloodedJanuary : Type 0 where
   pub unreplaced : yearByYear (pos 0) 6 6 (S2 plainMonthly (B1 7 flooded))
       ≡ negℤ (pos 133362) ∷ negℤ (pos 117774) ∷ negℤ (pos 99436) ∷ negℤ (pos 61201) ∷ negℤ (pos 30695) ∷ negℤ (pos 2958) ∷ []
 
--- METHOD 4.5: 72 figures from start month 7, each 1,000, eight times t and the remainder of 6 t² + 7 t by 11; but 1,305 at t = 50
-unfoldable pub uneven : List ℤ
-uneven = tab 72 (λ t. cond (eqb t 50) (pos 1305) (pos (1000 + 8 * t + (6 * t * t + 7 * t) % 11)))
+-- METHOD 4.5 and 4.6: 72 figures from start month 7, each 1,000, ten times t and the remainder of 37 t by 45
+unfoldable pub rippled : List ℤ
+rippled = tab 72 (λ t. pos (1000 + 10 * t + (37 * t) % 45))
 
--- METHOD 4.5: I is just above C, so that the final trend has 13 terms; by B13 and B7, or were the change from t = 5 to t = 6 counted too, I would be
--- just below C. What the Januaries get in D12
-pub record JustAbove : Type 0 where
-  pub terms : finalTerms 7 uneven ≡ Thirteen
-  pub final : yearByYear (pos 0) 6 6 (D12 7 uneven) ≡ map pos (1_053_385 ∷ 1_148_940 ∷ 1_244_559 ∷ 1_340_300 ∷ 1_435_222 ∷ 1_532_060 ∷ [])
+-- METHOD 4.5 and 4.6: by C13, C7 and C10 the final trend has 13 terms and pass D takes 3×5; by the tables of pass B, and by those of pass D, they
+-- would be 9 terms and 3×9. What the Januaries get in D12
+pub record ChosenByPassC : Type 0 where
+  pub terms : finalTerms 7 rippled ≡ Thirteen
+  pub filter : finalSeasonal 7 rippled ≡ ThreeByFive
+  pub final : yearByYear (pos 0) 6 6 (D12 7 rippled) ≡ map pos (1_091_705 ∷ 1_206_533 ∷ 1_320_698 ∷ 1_438_194 ∷ 1_557_718 ∷ 1_676_957 ∷ [])

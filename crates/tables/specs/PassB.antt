@@ -5,7 +5,8 @@ use Prim.Native.Nat.{ℕ}
 use lib.IntN.{ℤ}
 use Rattle.refusals.specs.Limits.{monthsOfYear}
 use Rattle.series.specs.Operations.{minus}
-use Rattle.steps.specs.Choices.{average3x5, none, byWeights, Choices, monthly, plainMonthly}
+use Rattle.rows.specs.declared.SeasonalFilter.the-variants.{ThreeByFive}
+use Rattle.steps.specs.Choices.{none, byWeights, Choices, monthly, plainMonthly}
 use Rattle.steps.specs.Steps.{SI1, innerS1, SI2, S2}
 use Rattle.extremes.specs.Years.{monthOf}
 use Rattle.extremes.specs.Weighing.{weightsOf}
@@ -25,7 +26,7 @@ module _ (start : ℕ) (x : List ℤ) where
 
   -- the first turn: extreme values of SI1 are replaced, those of SI2 are not
   abbrev pub choicesB4 : Choices
-  choicesB4 = monthly average3x5 (byWeights weightsB4) none
+  choicesB4 = monthly ThreeByFive (byWeights weightsB4) none
 
   -- METHOD 3.8: what the preliminary seasonal of SI2 leaves of it; and the weights of SI2, those of this irregular, over all n months
   unfoldable pub irregularB9 : List ℤ
@@ -36,4 +37,4 @@ module _ (start : ℕ) (x : List ℤ) where
 
   -- METHOD 3.8, the choices of pass B: extreme values of both are replaced
   abbrev pub choicesB : Choices
-  choicesB = monthly average3x5 (byWeights weightsB4) (byWeights weightsB9)
+  choicesB = monthly ThreeByFive (byWeights weightsB4) (byWeights weightsB9)

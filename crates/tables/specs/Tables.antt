@@ -7,20 +7,24 @@ use Rattle.integers.specs.Lists.{_‼_, tab}
 use Rattle.refusals.specs.Limits.{unit, monthsOfYear}
 use Rattle.series.specs.Operations.{minus, times}
 use Rattle.filters.specs.Filter.{filter}
+use Rattle.rows.specs.declared.SeasonalFilter.{SeasonalFilter}
+use Rattle.rows.specs.declared.SeasonalFilter.the-variants.{ThreeByFive}
 use Rattle.rows.specs.declared.Terms.{Terms}
 use Rattle.rows.specs.FilterTables.{tableHenderson}
 use Rattle.trend_length.specs.TrendLength.{trendLength}
-use Rattle.steps.specs.Choices.{Choices, plainMonthly}
+use Rattle.seasonal_choice.specs.SeasonalChoice.{chosenFilter}
+use Rattle.steps.specs.Choices.{Choices, plainBy}
 use Rattle.steps.specs.Steps.{T2, S2}
 use Rattle.extremes.specs.Weighing.{weightsOf, correctionOf}
 use Rattle.tables.specs.PassB.{choicesB}
 
--- METHOD 3.10, what passes C and D choose (for pass B see PassB): they replace no value
+-- METHOD 3.6 and 3.10, what passes C and D choose (for pass B see PassB): they replace no value; step 6 has 3×5 in pass C, and in pass D a filter that
+-- is chosen
 abbrev pub choicesC : Choices
-choicesC = plainMonthly
+choicesC = plainBy ThreeByFive
 
-abbrev pub choicesD : Choices
-choicesD = plainMonthly
+abbrev pub choicesD : SeasonalFilter → Choices
+choicesD f = plainBy f
 
 -- METHOD 4.1 and 4.2: the irregular, what a seasonal and a trend leave of B1: B13 and C13
 unfoldable pub irregularOf : List ℤ → List ℤ → List ℤ → List ℤ
@@ -76,9 +80,13 @@ module _ (start : ℕ) (figures : List ℤ) where
   unfoldable pub D1 : List ℤ
   D1 = minus B1 C20
 
-  -- METHOD 4.3, pass D works on D1: D10, the final seasonal, is its S2; D11, the adjusted figure, is B1 less D10
+  -- METHOD 4.6: which seasonal filter pass D takes, by the noise of C13 beside C10
+  unfoldable pub finalSeasonal : SeasonalFilter
+  finalSeasonal = chosenFilter monthsOfYear C13 C10
+
+  -- METHOD 4.3, pass D works on D1: D10, the final seasonal, is its S2, by that filter; D11, the adjusted figure, is B1 less D10
   unfoldable pub D10 : List ℤ
-  D10 = S2 choicesD D1
+  D10 = S2 (choicesD finalSeasonal) D1
 
   unfoldable pub D11 : List ℤ
   D11 = minus B1 D10

@@ -67,7 +67,7 @@ same-length-13 c = search needs
 
 returns-2 : tie.Need-returns-2
 returns-2 c = let d = c .before .before .before .before .before .before .before in let b = c .before .before .before .before .before .before .before .before .before .before .before .before .before .before .before .before .before .before .before .before .before .before .before in let e = d .to-d1 .ensures .0 in
-    record { answered = e .answered; series = e .series-is; length-tables = d .to-d1 .ensures .1; b17-is = b .to-c1 .ensures .weights-is; c17-is = e .weights-is }
+    record { answered = e .answered; series = e .series-is; choice-tables = d .to-d1 .ensures .1; b17-is = b .to-c1 .ensures .weights-is; c17-is = e .weights-is }
 
 pub corrected-series-spec : {M : Type 1} → statement M
 corrected-series-spec =

@@ -11,14 +11,14 @@ one-pass-requires c κs = let s = c .before .before .before .before in let w = s
     (series (s .pre .0), record { a-long = omega (arith, w, l); b-long = omega (arith, w, l); out-long = omega (arith, w, l) }, omega (arith, w, l))
 
 trend-requires : tie.Need-trend-requires
-trend-requires c κs = let p = c .before .before .before .before .before .before .before in let s = p .before .before .before .before .before in (adjustable (s .pre .0) (p .one-pass .ensures .seasonal), omega (arith, s .pre .1, s .pre .0 .x-long), omega (arith, s .pre .1, s .pre .0 .x-long))
+trend-requires c κs = let p = c .before .before .before .before .before .before .before in let s = p .before .before .before .before .before in (adjustable (s .pre .0) (s .args .chosen) (p .one-pass .ensures .seasonal), omega (arith, s .pre .1, s .pre .0 .x-long), omega (arith, s .pre .1, s .pre .0 .x-long))
 
 adjusted-requires : tie.Need-adjusted-requires
-adjusted-requires c κs = let p = c .before .before .before .before .before .before .before .before .before .before .before .before in let s = p .before .before .before .before .before in (beside (s .pre .0) (p .one-pass .ensures .seasonal), omega (arith, s .pre .1))
+adjusted-requires c κs = let p = c .before .before .before .before .before .before .before .before .before .before .before .before in let s = p .before .before .before .before .before in (beside (s .pre .0) (s .args .chosen) (p .one-pass .ensures .seasonal), omega (arith, s .pre .1))
 
 minus-requires : tie.Need-minus-requires
 minus-requires c κs = let d = c .before .before .before .before in let t = d .before .before .before .before .before in let p = t .before .before .before .before .before .before .before .before in let s = p .before .before .before .before .before in
-    (minusable (s .pre .0) (s .args .terms) (p .one-pass .ensures .seasonal) (d .adjusted .ensures) (t .trend .ensures), omega (arith, s .pre .1))
+    (minusable (s .pre .0) (s .args .chosen) (s .args .terms) (p .one-pass .ensures .seasonal) (d .adjusted .ensures) (t .trend .ensures), omega (arith, s .pre .1))
 
 same-length : tie.Need-same-length
 same-length c = search needs

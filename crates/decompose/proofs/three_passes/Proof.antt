@@ -11,7 +11,7 @@ use Rattle.integers.proofs.Fronts.{front-long, front-back, front-kept, front-re
 use Rattle.tables.specs.Tables.{D1}
 use Rattle.checks.specs.Answer.{scratchFor}
 use Rattle.decompose.specs.Promise.{zeroed}
-use Rattle.decompose.proofs.Passes.{final, measurable, final-terms, with-terms, not-both}
+use Rattle.decompose.proofs.Passes.{final, measurable, final-terms, choosable, final-seasonal, by-names, not-both}
 use borrow.Author.Needs.{needs}
 use Rattle.decompose.proofs.three_passes.Statement.{statement}
 use Rattle.decompose.proofs.three_passes.Tie as tie
@@ -43,9 +43,12 @@ module _ (q : tie.After-corrected-series) where
   unfolding zeroed
   cleared = ap (λ (l : List ℤ). tab (scratchFor n) (λ _. pos 0) ++ l) (front-rest n (s .args .scratch .now) room x same (scratchFor n) (omega arith))
 
--- the corrected series, from after the length is chosen
+-- the corrected series, from after the filter and the length are chosen
+abbrev before-filter : tie.After-chosen-filter → tie.After-corrected-series
+before-filter g = g .before .before .before .before .before .before .before .before .before .before .before .before .before .before
+
 abbrev corrected : tie.After-trend-length → tie.After-corrected-series
-corrected m = m .before .before .before .before .before .before .before .before .before .before .before .before .before .before
+corrected m = before-filter (m .before .before .before)
 
 slice-relend-prefix-corrected-series : tie.Need-slice-relend-prefix-corrected-series
 slice-relend-prefix-corrected-series c = search needs
@@ -90,8 +93,11 @@ same-length-7 c = search needs
 returns : tie.Need-returns
 returns c = let q = c .before .before .before .before .before .before .before .before .before .before .before .before .before .before in absurd (not-both (q .corrected-series .ensures .answered) (c .before .before .before .enum-told2 .given .1))
 
+chosen-filter-requires : tie.Need-chosen-filter-requires
+chosen-filter-requires c κs = let q = c .before .before .before .before .before .before .before .before .before .before .before .before .before in let s = q .before .before .before .before .before .before .before .before .before .before in choosable (s .pre .0) (q .corrected-series .ensures .choice-tables)
+
 trend-length-requires : tie.Need-trend-length-requires
-trend-length-requires c κs = let q = c .before .before .before .before .before .before .before .before .before .before .before .before .before in let s = q .before .before .before .before .before .before .before .before .before .before in measurable (s .pre .0) (q .corrected-series .ensures .length-tables)
+trend-length-requires c κs = let q = before-filter (c .before .before) in let s = q .before .before .before .before .before .before .before .before .before .before in measurable (s .pre .0) (q .corrected-series .ensures .choice-tables)
 
 slice-reshare-prefix-final-tables : tie.Need-slice-reshare-prefix-final-tables
 slice-reshare-prefix-final-tables c = search needs
@@ -129,7 +135,7 @@ same-length-14 c = search needs
 
 returns-2 : tie.Need-returns-2
 returns-2 c = let g = c .before .before .before .before .before .before .before in let m = g .before .before .before .before .before .before in let q = corrected m in let s = q .before .before .before .before .before .before .before .before .before .before in let e = q .corrected-series .ensures in
-    record { answered = refl; tables = with-terms (final-terms (s .pre .0) (e .length-tables) (m .trend-length .ensures)) (rw (back q) at (g .final-tables .ensures)); b17-is = e .b17-is; c17-is = e .c17-is; scratch-is = c .before .clear2 .ensures ∙ cleared q }
+    record { answered = refl; tables = by-names (final-seasonal (s .pre .0) (e .choice-tables) (m .before .before .before .chosen-filter .ensures)) (final-terms (s .pre .0) (e .choice-tables) (m .trend-length .ensures)) (rw (back q) at (g .final-tables .ensures)); b17-is = e .b17-is; c17-is = e .c17-is; scratch-is = c .before .clear2 .ensures ∙ cleared q }
 
 pub three-passes-spec : {M : Type 1} → statement M
 three-passes-spec =
@@ -149,6 +155,7 @@ three-passes-spec =
     same-length-6
     same-length-7
     returns
+    chosen-filter-requires
     trend-length-requires
     slice-reshare-prefix-final-tables
     slice-aggregate-final-tables

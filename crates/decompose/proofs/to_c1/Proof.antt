@@ -49,7 +49,7 @@ same-length-6 : tie.Need-same-length-6
 same-length-6 c = search needs
 
 returns : tie.Need-returns
-returns c = let e = c .before .before .before .before .before .before in let p = c .before .before .before .before .before .before .before .before .before .before .before .before .before .before .before .before .before .before .before in let g = p .before .before .before .before .before .before .before .before in to-c1 (g .before .before .before .pre .0) (g .in-grains .ensures) (p .pass-b .ensures) (e .correct-extremes .ensures)
+returns c = let e = c .before .before .before .before .before in let p = c .before .before .before .before .before .before .before .before .before .before .before .before .before .before .before .before .before .before in let g = p .before .before .before .before .before .before .before .before in to-c1 (g .before .before .before .pre .0) (g .in-grains .ensures) (p .pass-b .ensures) (e .correct-extremes .ensures)
 
 pub to-c1-spec : {M : Type 1} → statement M
 to-c1-spec =

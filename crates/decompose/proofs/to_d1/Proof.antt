@@ -45,7 +45,7 @@ same-length-6 : tie.Need-same-length-6
 same-length-6 c = search needs
 
 returns : tie.Need-returns
-returns c = let e = c .before .before .before .before .before .before in let p = c .before .before .before .before .before .before .before .before .before .before .before .before .before .before .before .before .before in let s = p .before .before .before .before .before .before .before .pre in to-d1 (s .0) (s .2) (p .one-pass .ensures) (e .correct-extremes .ensures)
+returns c = let e = c .before .before .before .before .before in let p = c .before .before .before .before .before .before .before .before .before .before .before .before .before .before .before .before in let s = p .before .before .before .before .before .before .before .pre in to-d1 (s .0) (s .2) (p .one-pass .ensures) (e .correct-extremes .ensures)
 
 pub to-d1-spec : {M : Type 1} → statement M
 to-d1-spec =

@@ -15,31 +15,31 @@ use Rattle.filters.proofs.fill_months.Statement.{statement}
 use Rattle.filters.proofs.fill_months.Tie as tie
 
 abbrev Inv-loop : tie.InvT-loop
-Inv-loop side step middle ends rows first past x out₀ f row₀ lo₀ out row lo =
-    let F = tableWith side step middle ends rows in
-    Begun F first past row lo × Filled (pos 0) (valueAt F first past x) first lo out₀ out
+Inv-loop side rowStep step middle ends rows first past x out₀ f turn₀ lo₀ out turn lo =
+    let F = tableWith side rowStep step middle ends rows in
+    Begun F first past turn lo × Filled (pos 0) (valueAt F first past x) first lo out₀ out
 
 abbrev μ-loop : tie.MeasureT-loop
-μ-loop side step middle ends rows first past x out₀ f row₀ lo₀ out row lo = 2 * side + 1 - row
+μ-loop side rowStep step middle ends rows first past x out₀ f turn₀ lo₀ out turn lo = 2 * side + 1 - turn
 
 abbrev F : tie.Start Inv-loop μ-loop → Table
-F s = let a = s .args in tableWith (a .side) (a .step) (a .middle) (a .ends) (a .rows .now)
+F s = let a = s .args in tableWith (a .side) (a .row-step) (a .step) (a .middle) (a .ends) (a .rows .now)
 
 -- the next part, by the rules for its rows and months, and as they were worked
 next-is : (c : tie.In-loop Inv-loop μ-loop) → let l = c .before in let s = l .before in let a = s .args in
-    Next (F s) (a .first) (a .past) (l .loop .row) (l .loop .lo) (alike (a .side) (l .loop .row)) (monthsEach (a .side) (a .step) (l .loop .row) (l .loop .lo) (a .past))
+    Next (F s) (a .first) (a .past) (l .loop .turn) (l .loop .lo) (alike (a .side) (l .loop .turn)) (monthsEach (a .side) (a .step) (l .loop .turn) (l .loop .lo) (a .past))
 next-is c = let l = c .before in let s = l .before in let q = s .pre .0 in
-    next-part (F s) (q .readable) (s .args .first) (s .args .past) (q .enough) (l .loop .row) (l .loop .lo) (omega (arith, c .loop-test)) (l .loop .inv .0)
+    next-part (F s) (q .readable) (s .args .first) (s .args .past) (q .enough) (l .loop .turn) (l .loop .lo) (omega (arith, c .loop-test)) (l .loop .inv .0)
 
 next : (m : tie.After-months-each Inv-loop μ-loop) → let l = m .before .before .before in let s = l .before in
-    Next (F s) (s .args .first) (s .args .past) (l .loop .row) (l .loop .lo) (m .before .alike .result) (m .months-each .result)
+    Next (F s) (s .args .first) (s .args .past) (l .loop .turn) (l .loop .lo) (m .before .alike .result) (m .months-each .result)
 next m = rw (m .before .alike .ensures, m .months-each .ensures) (next-is (m .before .before))
 
-mul-t15 : tie.Need-mul-t15 Inv-loop μ-loop
-mul-t15 c = omega (arith, c .pre .0 .readable .side-most)
+mul-t16 : tie.Need-mul-t16 Inv-loop μ-loop
+mul-t16 c = omega (arith, c .pre .0 .readable .side-most)
 
-add-t16 : tie.Need-add-t16 Inv-loop μ-loop
-add-t16 c = omega (arith, c .pre .0 .readable .side-most)
+add-t17 : tie.Need-add-t17 Inv-loop μ-loop
+add-t17 c = omega (arith, c .pre .0 .readable .side-most)
 
 loop-holds : tie.Need-loop-holds Inv-loop μ-loop
 loop-holds c = (nothing refl refl, filled-none)
@@ -57,8 +57,8 @@ fill-rows-requires : tie.Need-fill-rows-requires Inv-loop μ-loop
 fill-rows-requires c κs = let m = c .before in let l = m .before .before .before in let s = l .before in let q = s .pre .0 in
     (q .readable, part-serves (next m .part) (q .filterable), q .filterable .short, l .loop .inv .1 .long ∙ s .pre .1)
 
-add-row : tie.Need-add-row Inv-loop μ-loop
-add-row c = let m = c .before .before .before in let s = m .before .before .before .before in omega (arith, next m .part .rows, s .pre .0 .readable .side-most)
+add-turn : tie.Need-add-turn Inv-loop μ-loop
+add-turn c = let m = c .before .before .before in let s = m .before .before .before .before in omega (arith, next m .part .turns, s .pre .0 .readable .side-most)
 
 mul-lo : tie.Need-mul-lo Inv-loop μ-loop
 mul-lo c = let m = c .before .before .before in let q = m .before .before .before .before .pre .0 .filterable in omega (arith, next m .part .inside, q .inside, q .short)
@@ -87,14 +87,14 @@ fill-months-spec =
     (tie.spec
     Inv-loop
     μ-loop
-    mul-t15
-    add-t16
+    mul-t16
+    add-t17
     loop-holds
     mul-loop
     alike-requires
     months-each-requires
     fill-rows-requires
-    add-row
+    add-turn
     mul-lo
     add-lo
     loop-less

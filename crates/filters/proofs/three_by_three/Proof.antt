@@ -1,8 +1,9 @@
 -- `filters::three_by_three` meets its contract: the month-run step by the rows of 3×3.
 -- Assumes nothing.
 use borrow.Author.Needs.{needs}
-use Rattle.rows.specs.FilterTables.{table3x3}
-use Rattle.filters.proofs.Stored.{readable3x3}
+use Rattle.rows.specs.declared.SeasonalFilter.the-variants.{ThreeByThree}
+use Rattle.rows.specs.FilterTables.{tableSeasonal}
+use Rattle.filters.proofs.Stored.{readableSeasonal}
 use Rattle.filters.proofs.three_by_three.Statement.{statement}
 use Rattle.filters.proofs.three_by_three.Tie as tie
 
@@ -10,14 +11,14 @@ slice-aggregate-month-runs : tie.Need-slice-aggregate-month-runs
 slice-aggregate-month-runs c = search needs
 
 month-runs-requires : tie.Need-month-runs-requires
-unfolding table3x3
-month-runs-requires c κs = let s = c .before .before in (record { readable = readable3x3; enough = s .pre .1; filterable = s .pre .0 }, s .pre .2)
+unfolding tableSeasonal
+month-runs-requires c κs = let s = c .before .before in (record { readable = readableSeasonal ThreeByThree; enough = s .pre .1; filterable = s .pre .0 }, s .pre .2)
 
 same-length : tie.Need-same-length
 same-length c = search needs
 
 returns : tie.Need-returns
-unfolding table3x3
+unfolding tableSeasonal
 returns c = c .before .month-runs .ensures
 
 pub three-by-three-spec : {M : Type 1} → statement M

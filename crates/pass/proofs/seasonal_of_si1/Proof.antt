@@ -2,8 +2,9 @@
 -- Assumes nothing.
 use mathlib.Core.Path.{ap, _∙_}
 use native.Mathlib.Omega.{arith}
-use Rattle.rows.specs.FilterTables.{table2x12, table3x3}
-use Rattle.steps.specs.Choices.{average3x3}
+use Rattle.rows.specs.declared.SeasonalFilter.the-variants.{ThreeByThree}
+use Rattle.rows.specs.FilterTables.{table2x12, tableSeasonal}
+use Rattle.steps.specs.Choices.{seasonal}
 use Rattle.steps.specs.Places.{widened}
 use Rattle.steps.proofs.Sound.{plain-sound}
 use Rattle.steps.proofs.ByMonth.{inner-months}
@@ -21,7 +22,7 @@ three-by-three-requires c κs = let s = c .before .pre in (s .filterable, omega 
 
 without-level-requires : tie.Need-without-level-requires
 without-level-requires c κs = let r = c .before .before .before .before in let s = r .before .before .pre in
-    (mean-filterable average3x3 (plain-sound .seasonal1-norm) (s .filterable) (s .r-long) (r .three-by-three .ensures), omega (arith, s .long), omega (arith, s .m-long, s .r-long), omega (arith, s .out-long, s .r-long))
+    (mean-filterable (seasonal ThreeByThree) (plain-sound .seasonal1-norm) (s .filterable) (s .r-long) (r .three-by-three .ensures), omega (arith, s .long), omega (arith, s .m-long, s .r-long), omega (arith, s .out-long, s .r-long))
 
 widen-requires : tie.Need-widen-requires
 widen-requires c κs = search needs
@@ -39,7 +40,7 @@ returns : tie.Need-returns
 returns c = let l = c .before .before .before .before .before in let r = l .before .before .before .before .before in let s = r .before .before in
     c .before .widen .ensures
     ∙ ap (widened 6) (inner-is (l .without-level .ensures .long ∙ s .pre .out-long)
-    (level-months table2x12 (filter-months table3x3 (inner-months 6 (s .args .si .now)) (r .three-by-three .ensures)) (plain-sound .reach-is) (omega (arith, s .pre .long)) (l .without-level .ensures)))
+    (level-months table2x12 (filter-months (tableSeasonal ThreeByThree) (inner-months 6 (s .args .si .now)) (r .three-by-three .ensures)) (plain-sound .reach-is) (omega (arith, s .pre .long)) (l .without-level .ensures)))
 
 pub seasonal-of-si1-spec : {M : Type 1} → statement M
 seasonal-of-si1-spec =

@@ -1,9 +1,10 @@
--- `pass::seasonal_of_si2` meets its contract: 3×5, less its level.
+-- `pass::seasonal_of_si2` meets its contract: the filter chosen, less its level.
 -- Assumes nothing.
 use mathlib.Core.Path.{refl, _∙_}
 use native.Mathlib.Omega.{arith}
-use Rattle.rows.specs.FilterTables.{table2x12, table3x5}
-use Rattle.steps.specs.Choices.{average3x5}
+use Rattle.rows.specs.FilterTables.{table2x12, tableSeasonal}
+use Rattle.steps.specs.Choices.{seasonal}
+use Rattle.filters.proofs.Light.{lightSeasonal}
 use Rattle.filters.proofs.ByMonth.{all-months}
 use Rattle.steps.proofs.Sound.{plain-sound}
 use Rattle.pass.proofs.Places.{whole-months, whole-is, filter-months, level-months}
@@ -12,12 +13,12 @@ use borrow.Author.Needs.{needs}
 use Rattle.pass.proofs.seasonal_of_si2.Statement.{statement}
 use Rattle.pass.proofs.seasonal_of_si2.Tie as tie
 
-three-by-five-requires : tie.Need-three-by-five-requires
-three-by-five-requires c κs = let s = c .before .before .pre in (all-months (s .filterable), omega (arith, s .long), s .r-long)
+seasonal-requires : tie.Need-seasonal-requires
+seasonal-requires c κs = let s = c .before .before .pre in (all-months (s .filterable), omega (arith, s .long), s .r-long)
 
 without-level-requires : tie.Need-without-level-requires
 without-level-requires c κs = let r = c .before .before .before .before in let s = r .before .before .before .pre in
-    (mean-filterable average3x5 (plain-sound .seasonal2-norm) (all-months (s .filterable)) (s .r-long) (r .three-by-five .ensures), omega (arith, s .long), omega (arith, s .r-long), omega (arith, s .out-long, s .r-long))
+    (mean-filterable (seasonal (r .before .before .before .args .chosen)) (lightSeasonal (r .before .before .before .args .chosen)) (all-months (s .filterable)) (s .r-long) (r .seasonal .ensures), omega (arith, s .long), omega (arith, s .r-long), omega (arith, s .out-long, s .r-long))
 
 same-length : tie.Need-same-length
 same-length c = search needs
@@ -31,13 +32,13 @@ same-length-3 c = search needs
 returns : tie.Need-returns
 returns c = let l = c .before .before in let r = l .before .before .before .before .before in let s = r .before .before .before in
     whole-is (l .without-level .ensures .long ∙ s .pre .out-long)
-    (level-months table2x12 (filter-months table3x5 (whole-months (s .args .si .now) refl) (r .three-by-five .ensures)) (plain-sound .reach-is) (omega (arith, s .pre .long)) (l .without-level .ensures))
+    (level-months table2x12 (filter-months (tableSeasonal (s .args .chosen)) (whole-months (s .args .si .now) refl) (r .seasonal .ensures)) (plain-sound .reach-is) (omega (arith, s .pre .long)) (l .without-level .ensures))
 
 pub seasonal-of-si2-spec : {M : Type 1} → statement M
 seasonal-of-si2-spec =
     tie.close
     (tie.spec
-    three-by-five-requires
+    seasonal-requires
     without-level-requires
     same-length
     same-length-2

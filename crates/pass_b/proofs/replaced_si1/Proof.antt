@@ -10,7 +10,8 @@ use Rattle.integers.specs.Filling.{Filled}
 use Rattle.integers.proofs.FillingLaws.{filled-as, filled-again}
 use Rattle.integers.proofs.Parts.{part-long, part-kept, part-back, part-filled}
 use Rattle.refusals.specs.Limits.{monthsOfYear}
-use Rattle.rows.specs.FilterTables.{table3x3}
+use Rattle.rows.specs.declared.SeasonalFilter.the-variants.{ThreeByThree}
+use Rattle.rows.specs.FilterTables.{tableSeasonal}
 use Rattle.filters.specs.Filter.{filter}
 use Rattle.replacing.specs.Replaced.{replacedBy}
 use Rattle.steps.specs.Choices.{plainMonthly}
@@ -52,8 +53,8 @@ module _ (r : tie.After-three-by-three) where
   abbrev f : tie.After-first-si
   f = r .before .before .before .before .before
 
-  is-3x3 : take (n f - 6 - 6) (drop 6 (r .three-by-three .last .1 .1 .1 .0)) ≡ filter table3x3 (take (n f - 6 - 6) (drop 6 (f .first-si .last .1 .1 .0)))
-  is-3x3 = si1-3x3 (s f .pre .0) (stands f) (r .three-by-three .ensures) (omega (arith, s f .pre .1 .a-long, f .first-si)) ∙ ap (filter table3x3) (sym (is-si1 f))
+  is-3x3 : take (n f - 6 - 6) (drop 6 (r .three-by-three .last .1 .1 .1 .0)) ≡ filter (tableSeasonal ThreeByThree) (take (n f - 6 - 6) (drop 6 (f .first-si .last .1 .1 .0)))
+  is-3x3 = si1-3x3 (s f .pre .0) (stands f) (r .three-by-three .ensures) (omega (arith, s f .pre .1 .a-long, f .first-si)) ∙ ap (filter (tableSeasonal ThreeByThree)) (sym (is-si1 f))
 
   a-long : length (r .three-by-three .last .1 .1 .1 .0) ≡ n f
   a-long = omega (arith, s f .pre .1 .a-long, f .first-si, r .three-by-three)

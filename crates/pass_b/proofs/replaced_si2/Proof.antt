@@ -4,7 +4,8 @@ use mathlib.Core.Path.{_≡_, ap, ap₂, _∙_}
 use native.Mathlib.Omega.{arith}
 use Rattle.refusals.specs.Limits.{monthsOfYear}
 use Rattle.series.specs.Operations.{minus}
-use Rattle.rows.specs.FilterTables.{table3x5}
+use Rattle.rows.specs.declared.SeasonalFilter.the-variants.{ThreeByFive}
+use Rattle.rows.specs.FilterTables.{tableSeasonal}
 use Rattle.filters.specs.Filter.{filter}
 use Rattle.replacing.specs.Replaced.{replacedBy}
 use Rattle.steps.specs.Steps.{SI2}
@@ -20,7 +21,7 @@ is-si2 : (m : tie.After-minus) → let s = m .before .before .before .before in 
 is-si2 m = let s = m .before .before .before .before .pre in stages.to-si2 (sound4 (s .0)) (series (s .0)) (s .1) (m .minus .ensures)
 
 -- and in b after its filter
-is-3x5 : (r : tie.After-three-by-five) → r .three-by-five .last .1 .1 .1 .0 ≡ filter table3x5 (r .before .before .before .before .minus .last .1 .1 .0)
+is-3x5 : (r : tie.After-three-by-five) → r .three-by-five .last .1 .1 .1 .0 ≡ filter (tableSeasonal ThreeByFive) (r .before .before .before .before .minus .last .1 .1 .0)
 is-3x5 r = let m = r .before .before .before .before in let s = m .before .before .before .before .pre in si2-3x5 (s .0) (is-si2 m) (r .three-by-five .ensures) (s .2 .b-long)
 
 minus-requires : tie.Need-minus-requires
