@@ -1,7 +1,7 @@
-//! A plain integer program for the rules, written for speed in the usual ways: constant divisors and constant rows, a sliding sum for 2×12,
-//! no test of the row inside a filter, sums of squares once for a year, each group once, a list of the places of full weight once for a
-//! month's run. Tables are in grains. It works in the tables that the caller lends and the front of the scratch; of its own it has the sizes
-//! of the months, the sums of the years and the places of a run.
+//! A plain integer program for the rules, written for speed in the usual ways: constant divisors and constant rows, a sliding sum for 2×12 and
+//! for the full row of 3×9, no test of the row inside a filter, sums of squares once for a year, each group once, a list of the places of full
+//! weight once for a month's run, only what leaves the sums when a year is set aside. Tables are in grains. It works in the tables that the
+//! caller lends and the front of the scratch; of its own it has the sizes of the months, the sums of the years and the places of a run.
 
 use crate::checks::check;
 use crate::{Answer, Lent};
@@ -71,6 +71,67 @@ fn three_by_five(x: &[i64], out: &mut [i64]) {
     filter::<6, 60>(&[4, 8, 13, 13, 13, 9], &x[n - 72..], 12, &mut out[n - 36..n - 24]);
     filter::<5, 60>(&[4, 11, 15, 15, 15], &x[n - 60..], 12, &mut out[n - 24..n - 12]);
     filter::<4, 60>(&[9, 17, 17, 17], &x[n - 48..], 12, &mut out[n - 12..]);
+}
+
+/// The full row of 3×9: from one year to the next its sum loses three values and gains three.
+fn nine_full(x: &[i64], out: &mut [i64]) {
+    for (t, sum) in out.iter_mut().take(12).enumerate() {
+        *sum = dot(&[1, 2, 3, 3, 3, 3, 3, 3, 3, 2, 1], &x[t..], 12);
+    }
+    for t in 12..out.len() {
+        let lost = x[t - 12] + x[t] + x[t + 12];
+        out[t] = out[t - 12] - lost + x[t + 96] + x[t + 108] + x[t + 120];
+    }
+    for sum in out {
+        *sum = nearest::<27>(*sum);
+    }
+}
+
+/// The row of 3×9 for so many values before and after, the first window being the first of x. A row of p weights is over 27p.
+fn nine_row(before: usize, after: usize, x: &[i64], out: &mut [i64]) {
+    match (before, after) {
+        (0, 5) => filter::<6, 162>(&[30, 30, 30, 30, 24, 18], x, 12, out),
+        (1, 4) => filter::<6, 162>(&[28, 28, 28, 28, 28, 22], x, 12, out),
+        (1, 5) => filter::<7, 189>(&[30, 30, 30, 30, 30, 23, 16], x, 12, out),
+        (2, 3) => filter::<6, 162>(&[27, 27, 27, 27, 27, 27], x, 12, out),
+        (2, 4) => filter::<7, 189>(&[28, 28, 28, 28, 28, 28, 21], x, 12, out),
+        (2, 5) => filter::<8, 216>(&[30, 30, 30, 30, 30, 30, 22, 14], x, 12, out),
+        (3, 2) => filter::<6, 162>(&[27, 27, 27, 27, 27, 27], x, 12, out),
+        (3, 3) => filter::<7, 189>(&[27, 27, 27, 27, 27, 27, 27], x, 12, out),
+        (3, 4) => filter::<8, 216>(&[28, 28, 28, 28, 28, 28, 28, 20], x, 12, out),
+        (3, 5) => filter::<9, 243>(&[30, 30, 30, 30, 30, 30, 30, 21, 12], x, 12, out),
+        (4, 1) => filter::<6, 162>(&[22, 28, 28, 28, 28, 28], x, 12, out),
+        (4, 2) => filter::<7, 189>(&[21, 28, 28, 28, 28, 28, 28], x, 12, out),
+        (4, 3) => filter::<8, 216>(&[20, 28, 28, 28, 28, 28, 28, 28], x, 12, out),
+        (4, 4) => filter::<9, 243>(&[20, 29, 29, 29, 29, 29, 29, 29, 20], x, 12, out),
+        (4, 5) => filter::<10, 270>(&[21, 31, 31, 31, 31, 31, 31, 31, 21, 11], x, 12, out),
+        (5, 0) => filter::<6, 162>(&[18, 24, 30, 30, 30, 30], x, 12, out),
+        (5, 1) => filter::<7, 189>(&[16, 23, 30, 30, 30, 30, 30], x, 12, out),
+        (5, 2) => filter::<8, 216>(&[14, 22, 30, 30, 30, 30, 30, 30], x, 12, out),
+        (5, 3) => filter::<9, 243>(&[12, 21, 30, 30, 30, 30, 30, 30, 30], x, 12, out),
+        (5, 4) => filter::<10, 270>(&[11, 21, 31, 31, 31, 31, 31, 31, 31, 21], x, 12, out),
+        _ => nine_full(x, out),
+    }
+}
+
+/// 3×9 of each month's run, a stretch of months with the same row at a time.
+pub fn three_by_nine(x: &[i64], out: &mut [i64]) {
+    let (n, mut t) = (x.len(), 0);
+    while t < n {
+        let (before, after) = ((t / 12).min(5), ((n - 1 - t) / 12).min(5));
+        let end = (n - 12 * after).min(if before < 5 { 12 * before + 12 } else { n });
+        nine_row(before, after, &x[t - 12 * before..], &mut out[t..end]);
+        t = end;
+    }
+}
+
+/// 3×3, 3×5 or 3×9, named by its second number.
+fn three_by(span: usize, x: &[i64], out: &mut [i64]) {
+    match span {
+        3 => three_by_three(x, out),
+        5 => three_by_five(x, out),
+        _ => three_by_nine(x, out),
+    }
 }
 
 // The middle rows of Henderson's filters; Musgrave's rows in millionths, where 0, 1 and more values follow, with zeros before the shorter ones.
@@ -144,6 +205,39 @@ pub fn terms(i: i64, c: i64) -> usize {
         _ if 2 * i < 7 * c => 13,
         _ => 23,
     }
+}
+
+/// The sum of the sizes of the changes over twelve months.
+pub fn yearly_changes(x: &[i64]) -> i64 {
+    x.iter().zip(&x[12..]).map(|(x, later)| (later - x).abs()).sum()
+}
+
+/// The span of the seasonal filter, by the changes over twelve months of C13 and of C10, where they give an answer.
+pub fn span(i: i64, s: i64) -> Option<usize> {
+    match (i, s) {
+        (0, 0) => Some(5),
+        _ if 2 * i < 5 * s => Some(3),
+        _ if 7 * s < 2 * i && 2 * i < 11 * s => Some(5),
+        _ if 2 * i >= 13 * s => Some(9),
+        _ => None,
+    }
+}
+
+/// The span of the seasonal filter of pass D, with the question that gave it, from 1 on (7 where the sixth had no answer either), and the sums
+/// of the first question. From one question to the next the changes into the last twelve months leave the sums.
+pub fn choose_span(c13: &[i64], c10: &[i64]) -> (usize, usize, [i64; 2]) {
+    let first = [yearly_changes(c13), yearly_changes(c10)];
+    let ([mut i, mut s], mut kept) = (first, c13.len());
+    for question in 1..6 {
+        if let Some(span) = span(i, s) {
+            return (span, question, first);
+        }
+        i -= yearly_changes(&c13[kept - 24..kept]);
+        s -= yearly_changes(&c10[kept - 24..kept]);
+        kept -= 12;
+    }
+    let (span, question) = span(i, s).map_or((5, 7), |span| (span, 6));
+    (span, question, first)
 }
 
 fn minus(x: &[i64], y: &[i64], out: &mut [i64]) {
@@ -272,8 +366,9 @@ fn replace_extremes(si: &mut [i64], s: &[i64], start: u8, left: &mut [i64], weig
     done
 }
 
-/// Steps 1 to 7: T2 in t and S2 in s; si, r and m are work space. Extreme values are replaced where a start month is given with room for weights.
-fn pass(x: &[i64], [si, r, m, t, s]: [&mut [i64]; 5], mut extremes: Option<(u8, &mut [u16])>) -> bool {
+/// Steps 1 to 7, with the filter of a span in step 6: T2 in t and S2 in s; si, r and m are work space. Extreme values are replaced where a start
+/// month is given with room for weights.
+fn pass(x: &[i64], span: usize, [si, r, m, t, s]: [&mut [i64]; 5], mut extremes: Option<(u8, &mut [u16])>) -> bool {
     let n = x.len();
     let e = n - 12;
     {
@@ -293,12 +388,12 @@ fn pass(x: &[i64], [si, r, m, t, s]: [&mut [i64]; 5], mut extremes: Option<(u8, 
     minus(x, s, r);
     henderson(13, r, t);
     minus(x, t, si);
-    seasonal(three_by_five, si, r, m, s);
+    seasonal(|si, r| three_by(span, si, r), si, r, m, s);
     if let Some((start, weights)) = extremes {
         if !replace_extremes(si, s, start, r, weights) {
             return false;
         }
-        seasonal(three_by_five, si, r, m, s);
+        seasonal(|si, r| three_by(span, si, r), si, r, m, s);
     }
     true
 }
@@ -317,39 +412,56 @@ fn revise(figures: &[i32], start: u8, x: &mut [i64], [r, t, s]: [&mut [i64]; 3],
     true
 }
 
-/// The three passes.
-pub fn decompose(figures: &[i32], start: u8, lent: &mut Lent) -> Answer {
-    decompose_telling(figures, start, lent).0
+/// What was chosen on the way. All of it is 0 after a refusal.
+#[derive(Clone, Copy, Debug, Default, PartialEq)]
+pub struct Told {
+    /// The sums I and C that choose the final trend's filter.
+    pub trend: [i64; 2],
+    /// The span of pass D's seasonal filter, the question that gave it, and the sums I and S of the first.
+    pub seasonal: (usize, usize, [i64; 2]),
 }
 
-/// The three passes; the answer and the sums I and C that choose the final trend's filter, both 0 after a refusal.
+/// The three passes.
+pub fn decompose(figures: &[i32], start: u8, lent: &mut Lent) -> Answer {
+    decompose_told(figures, start, lent).0
+}
+
+/// The three passes; the answer and the sums I and C.
 pub fn decompose_telling(figures: &[i32], start: u8, lent: &mut Lent) -> (Answer, [i64; 2]) {
+    let (answer, told) = decompose_told(figures, start, lent);
+    (answer, told.trend)
+}
+
+/// The three passes; the answer and what was chosen.
+pub fn decompose_told(figures: &[i32], start: u8, lent: &mut Lent) -> (Answer, Told) {
     let Lent { d10, d11, d12, d13, b17, c17, scratch } = lent;
     let lengths = [d10.len(), d11.len(), d12.len(), d13.len(), b17.len(), c17.len()];
     let answer = check(figures, start, lengths, scratch.len());
     if answer.0 != 0 {
-        return (answer, [0; 2]);
+        return (answer, Told::default());
     }
     let n = figures.len();
     let (x, si) = scratch[..2 * n].split_at_mut(n);
     for (x, &figure) in x.iter_mut().zip(figures) {
         *x = UNIT * figure as i64;
     }
-    let mut told = ((6, 0), [0; 2]);
-    if pass(x, [si, d11, d13, d12, d10], Some((start, b17)))
+    let mut told = ((6, 0), Told::default());
+    if pass(x, 5, [si, d11, d13, d12, d10], Some((start, b17)))
         && revise(figures, start, x, [d11, d12, d10], b17)
-        && pass(x, [si, d11, d13, d12, d10], None)
+        && pass(x, 5, [si, d11, d13, d12, d10], None)
         && revise(figures, start, x, [d11, d12, d10], c17)
     {
+        // C13, C7 and C10 stand in d11, d12 and d10.
         let (i, c) = (changes(d11), changes(d12));
-        pass(x, [si, d11, d13, d12, d10], None);
+        let seasonal = choose_span(d11, d10);
+        pass(x, seasonal.0, [si, d11, d13, d12, d10], None);
         minus(x, d10, d11);
         henderson(terms(i, c), d11, d12);
         for (((d11, d13), &figure), (d10, d12)) in d11.iter_mut().zip(d13).zip(figures).zip(d10.iter().zip(&*d12)) {
             *d11 = UNIT * figure as i64 - d10;
             *d13 = *d11 - d12;
         }
-        told = ((0, 0), [i, c]);
+        told = ((0, 0), Told { trend: [i, c], seasonal });
     }
     scratch[..8 * n].fill(0);
     told

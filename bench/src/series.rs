@@ -74,6 +74,19 @@ pub fn waves(seed: u64, n: usize, height: i64, spread: i64) -> Series {
     Series { start, figures: within_limits(figures) }
 }
 
+/// A level with a seasonal that moves by the same steps from year to year, each up to a size, and noise: of one spread, and of another in the last
+/// so many months. The more noise beside the steps, the longer the seasonal filter of pass D; two spreads let years be set aside for the choice.
+pub fn moving(seed: u64, n: usize, size: i64, spread: i64, (late, late_spread): (usize, i64)) -> Series {
+    let mut dice = Dice::new(seed);
+    let start = dice.between(1, 12) as u8;
+    let steps: Vec<i64> = (0..12).map(|_| dice.between(-size, size)).collect();
+    let figures = (0..n).map(|t| {
+        let spread = if t + late < n { spread } else { late_spread };
+        50 * size + steps[t % 12] * (t as i64 / 12) + dice.noise(spread)
+    });
+    Series { start, figures: within_limits(figures) }
+}
+
 /// Any figures up to a size.
 pub fn random(seed: u64, n: usize, size: i64) -> Series {
     let mut dice = Dice::new(seed);

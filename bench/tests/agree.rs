@@ -1,6 +1,6 @@
 //! The plain program gives what ours gives, to the last entry of every lent slice.
 
-use bench::series::{at_the_limits, flat, flooded, odd, ordinary, raised_ends, random, rough_months, up_and_down, waves, Dice, Series};
+use bench::series::{at_the_limits, flat, flooded, moving, odd, ordinary, raised_ends, random, rough_months, up_and_down, waves, Dice, Series};
 use bench::{ours, plain, Answer, Lent};
 
 /// Entries that no program leaves behind by chance.
@@ -164,6 +164,97 @@ fn changes_and_terms() {
     assert_eq!([14, 15, 16].map(|n| plain::changes(&squares[..n])), [85, 198, 343]);
     let sums = [(0, 0), (0, 1), (99, 100), (100, 100), (349, 100), (350, 100), (1, 0)];
     assert_eq!(sums.map(|(i, c)| plain::terms(i, c)), [13, 9, 9, 13, 13, 23, 23]);
+}
+
+/// The span of pass D's seasonal filter, the question that gave it, and the sums I and S of the first question (METHOD 4.6).
+fn seasonal(series: &Series) -> (usize, usize, [i64; 2]) {
+    plain::decompose_told(&series.figures, series.start, &mut marked(series.figures.len(), 0)).1.seasonal
+}
+
+/// How often each span was given by each question, over so many series with spreads in a range, and up to so many per cent of them in the last years.
+fn count_spans(n: usize, times: usize, spreads: [i64; 2], percent: i64, counts: &mut [[usize; 8]; 10]) {
+    let mut dice = Dice::new(n as u64);
+    for k in 0..times {
+        let spread = dice.between(spreads[0], spreads[1]);
+        let late = (12 * dice.between(1, 6) as usize, spread * dice.between(0, percent) / 100);
+        let series = moving(dice.roll(), n, 100, spread, late);
+        agree(&format!("moving {k}, {n} months, spread {spread}"), &series);
+        let (span, question, _) = seasonal(&series);
+        counts[span][question] += 1;
+    }
+}
+
+/// Each of the three filters is given by each of the six questions, and 3×5 also where the sixth has no answer (counted as a seventh).
+fn assert_all_occur(counts: [[usize; 8]; 10]) {
+    for (span, questions) in [(3, 1..=6), (5, 1..=7), (9, 1..=6)] {
+        assert!(counts[span][questions].iter().all(|&count| count > 0), "{counts:?}");
+    }
+}
+
+/// With these lengths a month's run has 6 to 11 values: every row of 3×9.
+#[test]
+fn seasonal_filters_of_short_series() {
+    let mut counts = [[0; 8]; 10];
+    for n in 72..=132 {
+        count_spans(n, 60, [10, 300], 200, &mut counts);
+    }
+    assert_all_occur(counts);
+}
+
+/// More noise in the last years, or nearly none: else five years of fifty seldom change the answer.
+#[test]
+fn seasonal_filters_of_600_months() {
+    let mut counts = [[0; 8]; 10];
+    count_spans(600, 600, [10, 500], 1000, &mut counts);
+    count_spans(600, 300, [350, 450], 10, &mut counts);
+    assert_all_occur(counts);
+}
+
+/// 2I is 5S, 7S, 11S or 13S at the first question, or a grain beside it. The seeds were searched for.
+#[test]
+fn seasonal_filters_where_the_answer_changes() {
+    for (seed, size, spread, times, less, answer) in [
+        (748_315, 7, 2, 5, 0, None),
+        (433_367, 9, 3, 5, 1, Some(3)),
+        (230_831, 6, 3, 7, 0, None),
+        (97_909, 6, 3, 7, -1, Some(5)),
+        (397_479, 5, 5, 11, 0, None),
+        (227_693, 5, 5, 11, 1, Some(5)),
+        (88_597, 5, 6, 13, 0, Some(9)),
+        (57_249, 5, 6, 13, 1, None),
+    ] {
+        let series = moving(seed, 72, size, spread, (0, 0));
+        agree(&format!("moving {seed}"), &series);
+        let (span, question, [i, s]) = seasonal(&series);
+        assert_eq!((times * s - 2 * i, plain::span(i, s)), (less, answer), "moving {seed}");
+        assert!(if answer.is_some() { question == 1 && answer == Some(span) } else { question > 1 }, "moving {seed}");
+    }
+}
+
+/// The pencil cases of the sums over twelve months and of the answers (METHOD 11).
+#[test]
+fn yearly_changes_and_spans() {
+    let squares: Vec<i64> = (0..15).map(|t| t * t).collect();
+    assert_eq!([12, 13, 14, 15].map(|n| plain::yearly_changes(&squares[..n])), [0, 144, 312, 504]);
+    let sums = [(0, 0), (1, 0), (0, 1), (24, 10), (25, 10), (35, 10), (36, 10), (54, 10), (55, 10), (64, 10), (65, 10)];
+    let answers = [5, 9, 3, 3, 0, 0, 5, 5, 0, 0, 9].map(|span| (span > 0).then_some(span));
+    assert_eq!(sums.map(|(i, s)| plain::span(i, s)), answers);
+}
+
+/// The pencil cases of 3×9 (METHOD 11).
+#[test]
+fn three_by_nine_of_one_value() {
+    for (n, t, value, results) in [
+        (72, 71, 162_000, &[18_000, 22_000, 27_000, 27_000, 28_000, 30_000][..]),
+        (132, 60, 748_440, &[83_160, 91_080, 103_950, 92_400, 85_932, 83_160, 85_932, 92_400, 103_950, 91_080, 83_160]),
+    ] {
+        let (mut x, mut out) = (vec![0; n], vec![7; n]);
+        x[t] = value;
+        plain::three_by_nine(&x, &mut out);
+        for (place, &got) in out.iter().enumerate() {
+            assert_eq!(got, if place % 12 == t % 12 { results[place / 12] } else { 0 }, "{n} months, place {place}");
+        }
+    }
 }
 
 // The next four meet exact halves of a grain (METHOD 1.3) in every rounding that can have them: of both signs, with odd and with even whole parts.
