@@ -18,7 +18,7 @@ use Rattle.extremes.specs.Spreads.{sizesOf}
 use Rattle.extremes.specs.Weighing.{emptied}
 use Rattle.extremes.proofs.WeighingLaws.{never-emptied}
 use Rattle.extremes.proofs.YearLaws.{part-calendar}
-use Rattle.tables.specs.Tables.{choicesD, B1, B13, C13, D1, finalSeasonal, D10, D11, finalTerms, D12, D13}
+use Rattle.tables.specs.Tables.{choicesD, B1, B13, C13, D1, finalSeasonalFilter, D10, D11, finalTerms, D12, D13}
 use Rattle.tables.specs.PassB.{startB4, irregularB4, irregularB9}
 use Rattle.tables.proofs.Sizes.{length-b1, length-irregularB4, length-irregularB9, length-b13, length-c13}
 use Rattle.tables.proofs.Nearness.{passes-near, near-at}
@@ -71,19 +71,19 @@ unfolding answer
 answer-is lent h = h .answer-is ∙ rw (not-emptied (h .workable))
 
 module _ (start : ℕ) (f : List ℤ) where
-  d10-is : S2 (choicesD (finalSeasonal start f)) (D1 start f) ≡ D10 start f
+  d10-is : S2 (choicesD (finalSeasonalFilter start f)) (D1 start f) ≡ D10 start f
   unfolding D10
   d10-is = refl
 
-  d11-is : minus (times unit f) (S2 (choicesD (finalSeasonal start f)) (D1 start f)) ≡ D11 start f
+  d11-is : minus (times unit f) (S2 (choicesD (finalSeasonalFilter start f)) (D1 start f)) ≡ D11 start f
   unfolding D11 D10 B1
   d11-is = refl
 
-  d12-is : filter (tableHenderson (finalTerms start f)) (minus (D1 start f) (S2 (choicesD (finalSeasonal start f)) (D1 start f))) ≡ D12 start f
+  d12-is : filter (tableHenderson (finalTerms start f)) (minus (D1 start f) (S2 (choicesD (finalSeasonalFilter start f)) (D1 start f))) ≡ D12 start f
   unfolding D12 D10
   d12-is = refl
 
-  d13-is : minus (minus (times unit f) (S2 (choicesD (finalSeasonal start f)) (D1 start f))) (filter (tableHenderson (finalTerms start f)) (minus (D1 start f) (S2 (choicesD (finalSeasonal start f)) (D1 start f)))) ≡ D13 start f
+  d13-is : minus (minus (times unit f) (S2 (choicesD (finalSeasonalFilter start f)) (D1 start f))) (filter (tableHenderson (finalTerms start f)) (minus (D1 start f) (S2 (choicesD (finalSeasonalFilter start f)) (D1 start f)))) ≡ D13 start f
   unfolding D13 D12 D11 D10 B1
   d13-is = refl
 

@@ -29,7 +29,7 @@ use Rattle.extremes.specs.Weighing.{answerOf}
 use Rattle.extremes.specs.declared.Weighed.{Weighed}
 use Rattle.extremes.specs.declared.Weighed.the-variants.{Weights, EmptyGroup}
 use Rattle.extremes.proofs.WeighingLaws.{always-weighed}
-use Rattle.tables.specs.Tables.{choicesD, irregularOf, B1, B7, B10, B13, B17, B20, C1, C7, C10, C13, C17, C20, D1, finalSeasonal, finalTerms}
+use Rattle.tables.specs.Tables.{choicesD, irregularOf, B1, B7, B10, B13, B17, B20, C1, C7, C10, C13, C17, C20, D1, finalSeasonalFilter, finalTerms}
 use Rattle.tables.specs.Bounds.{largestC1, largestC7, largestD7, largestD10, largestD12}
 use Rattle.tables.proofs.Sizes.{length-irregular, length-c1, length-c7, length-c10, length-c13, length-d1, within-c1, within-c7, within-c10, within-c13, within-d1}
 use Rattle.trend_length.specs.TrendLength.{trendLength}
@@ -132,8 +132,8 @@ module _ {start : ℕ} {f : List ℤ} (h : Workable start f) where
     long = omega (arith, h .long, length-c13 start f);
   })
 
-  pub final-seasonal : {g : SeasonalFilter} {i t s : List ℤ} → ChoiceTables start f i t s → g ≡ chosenFilter monthsOfYear i s → g ≡ finalSeasonal start f
-  unfolding finalSeasonal
+  pub final-seasonal : {g : SeasonalFilter} {i t s : List ℤ} → ChoiceTables start f i t s → g ≡ chosenFilter monthsOfYear i s → g ≡ finalSeasonalFilter start f
+  unfolding finalSeasonalFilter
   final-seasonal q e = e ∙ rw (q .irregular, q .seasonal)
 
 -- ---- pass D, by the seasonal filter g

@@ -16,7 +16,7 @@ use Rattle.steps.specs.Steps.{S2}
 use Rattle.extremes.specs.Weighing.{weightsOf, answerOf}
 use Rattle.extremes.specs.declared.Weighed.{Weighed}
 use Rattle.extremes.specs.declared.Weighed.the-variants.{Weights}
-use Rattle.tables.specs.Tables.{choicesD, irregularOf, corrections, B17, C7, C10, C13, C17, D1, finalSeasonal, finalTerms}
+use Rattle.tables.specs.Tables.{choicesD, irregularOf, corrections, B17, C7, C10, C13, C17, D1, finalSeasonalFilter, finalTerms}
 use Rattle.tables.specs.Bounds.{largestC7, largestC10, largestD1}
 use Rattle.checks.specs.Answer.{scratchFor}
 use Rattle.checks.specs.Contracts.{Workable}
@@ -94,7 +94,7 @@ pub record Finished (g : SeasonalFilter) (terms : Terms) (b1 x d10 d11 d12 d13 :
 -- what the three passes leave
 pub record PassesDone (start : ℕ) (f : List ℤ) (r : Decomposed) (d10 d11 d12 d13 : List ℤ) (b17 c17 : List ℕ) (scratch₀ scratch : List ℤ) : Type 0 where
   pub answered : r ≡ Tables
-  pub tables : Finished (finalSeasonal start f) (finalTerms start f) (times unit f) (D1 start f) d10 d11 d12 d13
+  pub tables : Finished (finalSeasonalFilter start f) (finalTerms start f) (times unit f) (D1 start f) d10 d11 d12 d13
   pub b17-is : b17 ≡ B17 start f
   pub c17-is : c17 ≡ C17 start f
   pub scratch-is : scratch ≡ zeroed (length f) scratch₀

@@ -8,7 +8,7 @@ use lib.ListN.{length, drop}
 use lib.IntN.{ℤ, pos}
 use Rattle.integers.specs.Lists.{tab}
 use Rattle.refusals.specs.Sheet.{Answer, success, refusal, refusalOf}
-use Rattle.tables.specs.Tables.{B1, B17, C17, D1, finalSeasonal, D10, D11, finalTerms, D12, D13}
+use Rattle.tables.specs.Tables.{B1, B17, C17, D1, finalSeasonalFilter, D10, D11, finalTerms, D12, D13}
 use Rattle.tables.specs.Nearness.{PassesNear, NearAt}
 use Rattle.checks.specs.declared.Lengths.{Lengths}
 use Rattle.checks.specs.Answer.{scratchFor, answerFor}
@@ -75,6 +75,6 @@ pub record Promise (start : ℕ) (figures : List ℤ) (lent : Slices) (r : Decom
   pub slices : left ≡ after (answer start figures lent) start figures lent
   -- METHOD 10.3 with 6.4: where the answer is tables, in each month, the exact working taking the seasonal filter and the length that the rules choose
   pub near : says r ≡ success tt → (t : ℕ) → t < length figures
-      → NearAt (finalSeasonal start figures) (finalTerms start figures) (B1 start figures) (D1 start figures) (left .d10) (left .d11) (left .d12) (left .d13) t
+      → NearAt (finalSeasonalFilter start figures) (finalTerms start figures) (B1 start figures) (D1 start figures) (left .d10) (left .d11) (left .d12) (left .d13) t
   -- METHOD 6.3, of each pass on its X: facts of the rules, which hold of any figures, whatever the program leaves
   pub passes : PassesNear start figures

@@ -21,7 +21,7 @@ use Rattle.filters.specs.Contracts.{Filterable, FilterableMonths}
 use Rattle.filters.proofs.Lengths.{length-filter}
 use Rattle.filters.proofs.ByMonth.{all-months}
 use Rattle.replacing.specs.Replaced.{replacedBy}
-use Rattle.steps.specs.Choices.{MovingAverage, average2x12, seasonal, none, byWeights, plainMonthly}
+use Rattle.steps.specs.Choices.{MovingAverage, average2x12, averageSeasonal, none, byWeights, plainMonthly}
 use Rattle.steps.specs.Places.{atMonth}
 use Rattle.steps.specs.ByMonth.{Stands}
 use Rattle.steps.specs.Steps.{level, T1, SI1, R1, M1, innerS1, S1, A1, T2, SI2}
@@ -126,7 +126,7 @@ module _ {start : ℕ} {x : List ℤ} (h : PassBSeries start x) where
     -- from whatever month: that it is the month of t = 6 matters to the weights alone
     pub weighs1 : {first : ℕ} {a t s : List ℤ} {w : List ℕ} → 1 ≤ first → first ≤ monthsOfYear → a ≡ filter (tableSeasonal ThreeByThree) b
         → length t ≡ length x - 12 → length s ≡ length x - 12 → length w ≡ length x - 12 → Weighs first b a t s w
-    weighs1 i j = weighs (seasonal ThreeByThree) (plain-sound .seasonal1-norm) si1-long (record { least = omega (arith, h .long); most = omega (arith, h .short); early = i; late = j }) si1-small
+    weighs1 i j = weighs (averageSeasonal ThreeByThree) (plain-sound .seasonal1-norm) si1-long (record { least = omega (arith, h .long); most = omega (arith, h .short); early = i; late = j }) si1-small
 
     pub weights1 : {a : List ℤ} {w : List ℕ} → a ≡ filter (tableSeasonal ThreeByThree) b → w ≡ weightsOf (startB4 start) monthsOfYear (minus b (withoutLevel 6 table2x12 a)) → w ≡ weightsB4 start x
     unfolding weightsB4 irregularB4
@@ -160,7 +160,7 @@ module _ {start : ℕ} {x : List ℤ} (h : PassBSeries start x) where
     si2-minusable = record { short = h .short; long = si2-long; left = larger (h .small) (omega arith); right = larger si2-small (omega arith) }
 
     pub weighs2 : {b t s : List ℤ} {w : List ℕ} → b ≡ filter (tableSeasonal ThreeByFive) a → length t ≡ length x → length s ≡ length x → length w ≡ length x → Weighs start a b t s w
-    weighs2 = weighs (seasonal ThreeByFive) (plain-sound .seasonal2-norm) si2-long (record { least = omega (arith, h .long); most = h .short; early = h .early; late = h .late }) si2-small
+    weighs2 = weighs (averageSeasonal ThreeByFive) (plain-sound .seasonal2-norm) si2-long (record { least = omega (arith, h .long); most = h .short; early = h .early; late = h .late }) si2-small
 
     pub weights2 : {b : List ℤ} {w : List ℕ} → b ≡ filter (tableSeasonal ThreeByFive) a → w ≡ weightsOf start monthsOfYear (minus a (withoutLevel 6 table2x12 b)) → w ≡ weightsB9 start x
     unfolding weightsB9 irregularB9

@@ -90,7 +90,7 @@ hendersonHalves c = at (filter (tableHenderson Thirteen) (one c 8_398)) (c ∷ (
 abbrev exampleGroup : List ℕ
 exampleGroup = 0 ∷ 0 ∷ 0 ∷ 1 ∷ []
 
--- METHOD 4.5: the squares of t, those of even t below zero, of n months; the number of terms for two sums
+-- METHOD 4.5 and 4.6: the squares of t, those of even t below zero, of n months; the number of terms for two sums
 abbrev squaresByTurns : ℕ → List ℤ
 squaresByTurns n = tab n (λ t. cond (eqb (t % 2) 0) (negℤ (pos (t * t))) (pos (t * t)))
 
@@ -102,10 +102,7 @@ count TwentyThree = 23
 abbrev countFor : ℕ → ℕ → ℕ
 countFor i c = count (termsFor i c)
 
--- METHOD 4.6: the squares of t, of n months; what a question answers, and a filter, by a number: 33, 35 or 39, and 0 for none
-abbrev squaresOf : ℕ → List ℤ
-squaresOf n = tab n (λ t. pos (t * t))
-
+-- METHOD 4.6: a filter by a number, 33, 35 or 39; what a question answers, 0 for none
 abbrev filterNumber : SeasonalFilter → ℕ
 filterNumber ThreeByThree = 33
 filterNumber ThreeByFive = 35
@@ -187,15 +184,16 @@ pencil =
     -- the terms for sums I and C of 0 and 0, 0 and 1, 99 and 100, 100 and 100, 349 and 100, 350 and 100, 1 and 0
     ∷ (whole (countFor 0 0 ∷ countFor 0 1 ∷ countFor 99 100 ∷ countFor 100 100 ∷ countFor 349 100 ∷ countFor 350 100 ∷ countFor 1 0 ∷ [])
     gives whole (13 ∷ 9 ∷ 9 ∷ 13 ∷ 13 ∷ 23 ∷ 23 ∷ []))
-    -- the sum of the sizes of changes over twelve months, of squares: 12, 13, 14 and 15 months
-    ∷ (whole (map (λ n. yearChanges 12 (squaresOf n)) (12 ∷ 13 ∷ 14 ∷ 15 ∷ [])) gives whole (0 ∷ 144 ∷ 312 ∷ 504 ∷ []))
-    -- the answers to sums I and S of 0 and 0, 1 and 0, 0 and 1; and of S 10 with I 24, 25, 35, 36, 54, 55, 64, 65
-    ∷ (whole (answerTo 0 0 ∷ answerTo 1 0 ∷ answerTo 0 1 ∷ map (λ i. answerTo i 10) (24 ∷ 25 ∷ 35 ∷ 36 ∷ 54 ∷ 55 ∷ 64 ∷ 65 ∷ []))
+    -- the sum of the sizes of changes over twelve months, of the same squares: 12, 13, 14 and 15 months
+    ∷ (whole (map (λ n. yearChanges 12 (squaresByTurns n)) (12 ∷ 13 ∷ 14 ∷ 15 ∷ [])) gives whole (0 ∷ 144 ∷ 312 ∷ 504 ∷ []))
+    -- the answers to sums I and S of 0 and 0, 1 and 0, 0 and 1; and of S 1,000 with I 2,499, 2,500, 3,500, 3,501, 5,499, 5,500, 6,499, 6,500
+    ∷ (whole (answerTo 0 0 ∷ answerTo 1 0 ∷ answerTo 0 1 ∷ map (λ i. answerTo i 1000) (2499 ∷ 2500 ∷ 3500 ∷ 3501 ∷ 5499 ∷ 5500 ∷ 6499 ∷ 6500 ∷ []))
     gives whole (35 ∷ 39 ∷ 33 ∷ 33 ∷ 0 ∷ 0 ∷ 35 ∷ 35 ∷ 0 ∷ 0 ∷ 39 ∷ []))
-    -- the filters by yearly changes of C13: at the first question, the second, third, fourth and sixth; at none; of 72 months the sixth has no change
-    ∷ (whole (chosenFor (4 ∷ 4 ∷ 4 ∷ 4 ∷ 4 ∷ []) ∷ chosenFor (4 ∷ 4 ∷ 4 ∷ 4 ∷ 49 ∷ []) ∷ []) gives whole (33 ∷ 39 ∷ []))
+    -- the filters by yearly changes of C13: at the first question; the second; the third; the fourth to sixth; at none; of 72 months the sixth has no change
+    ∷ (whole (chosenFor (4 ∷ 4 ∷ 4 ∷ 4 ∷ 4 ∷ []) ∷ chosenFor (8 ∷ 8 ∷ 8 ∷ 8 ∷ 8 ∷ []) ∷ chosenFor (4 ∷ 4 ∷ 4 ∷ 4 ∷ 49 ∷ []) ∷ []) gives whole (33 ∷ 35 ∷ 39 ∷ []))
     ∷ (whole (chosenFor (4 ∷ 4 ∷ 4 ∷ 4 ∷ 9 ∷ []) ∷ chosenFor (4 ∷ 4 ∷ 4 ∷ 6 ∷ 17 ∷ []) ∷ chosenFor (4 ∷ 4 ∷ 4 ∷ 4 ∷ 39 ∷ []) ∷ []) gives whole (33 ∷ 33 ∷ 33 ∷ []))
-    ∷ (whole (chosenFor (14 ∷ 13 ∷ 13 ∷ 11 ∷ 11 ∷ []) ∷ chosenFor (8 ∷ 8 ∷ 4 ∷ 4 ∷ 1 ∷ []) ∷ chosenFor (4 ∷ 6 ∷ 6 ∷ 6 ∷ 6 ∷ 6 ∷ []) ∷ []) gives whole (39 ∷ 35 ∷ 33 ∷ []))
+    ∷ (whole (chosenFor (14 ∷ 13 ∷ 13 ∷ 11 ∷ 11 ∷ []) ∷ chosenFor (3 ∷ 17 ∷ 19 ∷ 5 ∷ 16 ∷ []) ∷ []) gives whole (39 ∷ 39 ∷ []))
+    ∷ (whole (chosenFor (8 ∷ 8 ∷ 4 ∷ 4 ∷ 1 ∷ []) ∷ chosenFor (4 ∷ 8 ∷ 6 ∷ 6 ∷ 6 ∷ []) ∷ chosenFor (4 ∷ 6 ∷ 6 ∷ 6 ∷ 6 ∷ 6 ∷ []) ∷ []) gives whole (35 ∷ 33 ∷ 33 ∷ []))
     ∷ (whole (chosenFor (4 ∷ 6 ∷ 6 ∷ 6 ∷ 6 ∷ 6 ∷ 6 ∷ []) ∷ chosenFor (6 ∷ 6 ∷ 6 ∷ 6 ∷ 6 ∷ []) ∷ []) gives whole (35 ∷ 35 ∷ []))
     ∷ []
 

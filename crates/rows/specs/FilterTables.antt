@@ -12,15 +12,16 @@ use Rattle.rows.specs.HendersonRows.{rowsHenderson9, rowsHenderson13, ro
 unfoldable pub table2x12 : Table
 table2x12 = record { side = 6; rowStep = 1; step = 1; width = 0; rows = row2x12; middle = 24; ends = 24 }
 
+-- METHOD 2.8 and 6.1: the least common multiple of 27 and 60 and of 27p for 1 to 11 values, for the exact working of every seasonal filter; the rows of
+-- 3×9 for the ends are stored over it
+abbrev pub overSeasonal : ℕ
+overSeasonal = 748_440
+
 -- METHOD 2.3, 2.4 and 2.8: the seasonal filters, along a month's run. 3×9 has a row for each pair of counts
 unfoldable pub tableSeasonal : SeasonalFilter → Table
 tableSeasonal ThreeByThree = record { side = 2; rowStep = 1; step = 12; width = 5; rows = rows3x3; middle = 27; ends = 27 }
 tableSeasonal ThreeByFive = record { side = 3; rowStep = 1; step = 12; width = 7; rows = rows3x5; middle = 60; ends = 60 }
-tableSeasonal ThreeByNine = record { side = 5; rowStep = 6; step = 12; width = 11; rows = rows3x9; middle = 27; ends = 748_440 }
-
--- METHOD 2.8 and 6.1: a common multiple of the denominators of their rows, 27, 60 and 27p for 1 to 11 values, for the exact working of every one
-abbrev pub overSeasonal : ℕ
-overSeasonal = 748_440
+tableSeasonal ThreeByNine = record { side = 5; rowStep = 6; step = 12; width = 11; rows = rows3x9; middle = 27; ends = overSeasonal }
 
 -- METHOD 2.5 and 2.6: Henderson's filter of so many terms, with Musgrave's ends
 unfoldable pub tableHenderson : Terms → Table

@@ -1,5 +1,6 @@
 -- METHOD 2.2 to 2.4 and 2.8: the stored rows of 2×12, 3×3, 3×5 and 3×9, oldest value first. The rows for the ends are shorter, and are filled up with
--- zeros that no filter reads. Those for the start of a run come first: they are those for its end, read backwards (RowRules).
+-- zeros that no filter reads. The row for b values before and a after is that for a before and b after, read backwards (RowRules). Of 3×3 and 3×5 those
+-- for the start of a run come first.
 use mathlib.Core.List.{List, [], _∷_}
 use lib.IntN.{ℤ, pos}
 
@@ -27,8 +28,9 @@ rows3x5 =
     ∷ pos 4 ∷ pos 11 ∷ pos 15 ∷ pos 15 ∷ pos 15 ∷ pos 0 ∷ pos 0
     ∷ pos 9 ∷ pos 17 ∷ pos 17 ∷ pos 17 ∷ pos 0 ∷ pos 0 ∷ pos 0 ∷ []
 
--- METHOD 2.8: 3×9, the full row in 27ths, the others over 748,440. Six rows each for 0, 1, .. 5 values before: for 5, 4, .. 0 after. (Runs have six
--- values or more: a row for fewer than six serves no place, and obeys the same rule)
+-- METHOD 2.8: 3×9, the full row in 27ths, the others over 748,440, which is 27 times 27,720: how they follow from the full row is RowRules.shared3x9.
+-- Six rows each for 0, 1, .. 5 values before: for 5, 4, .. 0 after. (Runs have six values or more: a row for fewer than six serves no place, and obeys
+-- the same rule)
 abbrev pub rows3x9 : List ℤ
 rows3x9 =
     pos 138600 ∷ pos 138600 ∷ pos 138600 ∷ pos 138600 ∷ pos 110880 ∷ pos 83160 ∷ pos 0 ∷ pos 0 ∷ pos 0 ∷ pos 0 ∷ pos 0

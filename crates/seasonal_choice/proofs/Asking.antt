@@ -15,7 +15,7 @@ use Rattle.rows.specs.declared.SeasonalFilter.the-variants.{ThreeByFive}
 use Rattle.seasonal_choice.specs.declared.Decision.{Decision}
 use Rattle.seasonal_choice.specs.declared.Decision.the-variants.{Decided, Undecided}
 use Rattle.seasonal_choice.specs.SeasonalChoice.{yearChanges, decide, orElse, yearOff, ask}
-use Rattle.seasonal_choice.specs.Contracts.{Kept}
+use Rattle.seasonal_choice.specs.Contracts.{MonthsKept}
 
 -- ---- the three ways on, by what the sums decide
 module _ (p : ℕ) (irregular seasonal : List ℤ) where
@@ -54,7 +54,7 @@ changes-off p x h =
 abbrev lastChanges : ℕ → ℕ → List ℤ → ℕ
 lastChanges p n x = changes x p (n - p) (n - (n - p))
 
-module _ {p : ℕ} {irregular seasonal : List ℤ} {i s tries : ℕ} (k : Kept p irregular seasonal i s tries) where
+module _ {p : ℕ} {irregular seasonal : List ℤ} {i s tries : ℕ} (k : MonthsKept p irregular seasonal i s tries) where
   decision-is : {v : Decision} → v ≡ decide i s → v ≡ decision p irregular seasonal
   decision-is e = e ∙ ap₂ decide (k .i-is) (k .s-is)
 
@@ -93,7 +93,7 @@ module _ {p : ℕ} {irregular seasonal : List ℤ} {i s tries : ℕ} (k : Kept p
     less-s e = off seasonal (k .both .same) (k .s-is) e
 
     pub next : {c d : ℕ} → c ≡ lastChanges p (length irregular) irregular → d ≡ lastChanges p (length irregular) seasonal
-        → Kept p (take (length irregular - p) irregular) (take (length irregular - p) seasonal) (i - c) (s - d) (tries - 1)
+        → MonthsKept p (take (length irregular - p) irregular) (take (length irregular - p) seasonal) (i - c) (s - d) (tries - 1)
     unfolding yearOff
     next e f = record {
       both = record {

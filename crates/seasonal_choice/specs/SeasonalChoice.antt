@@ -1,4 +1,4 @@
--- METHOD 4.6: the seasonal filter of pass D, by noise. A year has p months: 12.
+-- METHOD 4.6: the seasonal filter of pass D, by noise: by the I/S ratio. A year has p months: 12.
 use mathlib.Core.Bool.{_&&_, cond}
 use mathlib.Core.List.{List}
 use Prim.Native.Nat.{ℕ, zero, suc, _*_, _-_}

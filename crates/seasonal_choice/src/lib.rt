@@ -4,7 +4,7 @@ ghost use Prim.Native.Nat.{_≤_};
 ghost use Rattle.refusals.specs.Limits.{monthsOfYear};
 ghost use Rattle.series.specs.Contracts.{mostChange};
 ghost use Rattle.seasonal_choice.specs.SeasonalChoice.{decide, ask, chosenFilter};
-ghost use Rattle.seasonal_choice.specs.Contracts.{Choosable, Kept};
+ghost use Rattle.seasonal_choice.specs.Contracts.{Choosable, MonthsKept};
 use rows::SeasonalFilter;
 
 // What one question answers.
@@ -13,7 +13,7 @@ pub enum Decision {
     Undecided,
 }
 
-// One question, to the sums I and S. Their sum is 0 where both are.
+// One question, to the sums I and S. Both are 0 just where their sum is.
 fn decide(i: u64, s: u64) -> Decision
     requires { ⌜ (i ≤ mostChange) × (s ≤ mostChange) ⌝ }
     ensures { λ r. ⌜ r ≡ decide i s ⌝ }
@@ -36,7 +36,7 @@ fn decide(i: u64, s: u64) -> Decision
 // The question asked of the months kept, whose changes sum to i and s; then, so many times more at most, with the last year set aside: what its
 // changes bring is taken from both sums.
 fn ask(irregular: &[i64], seasonal: &[i64], i: u64, s: u64, tries: usize) -> SeasonalFilter
-    requires { ⌜ Kept monthsOfYear (now irregular) (now seasonal) i s tries ⌝ }
+    requires { ⌜ MonthsKept monthsOfYear (now irregular) (now seasonal) i s tries ⌝ }
     ensures { λ r. ⌜ r ≡ ask monthsOfYear tries (now (irregular .entry)) (now (seasonal .entry)) ⌝ }
 {
     let decision = decide(i, s);

@@ -1,7 +1,7 @@
 -- How far a series is from an exact one: one law for each operation.
 use mathlib.Core.Path.{_≡_, refl, sym, _∙_}
 use mathlib.Core.List.{List}
-use Prim.Native.Nat.{ℕ, zero, suc, _+_, _*_, _≤_}
+use Prim.Native.Nat.{ℕ, zero, suc, _+_, _*_, _≤_, _<_}
 use native.Mathlib.Nat.{le-refl, mul-le-mul-left, mul-le-mul-right}
 use native.Mathlib.Omega.{arith}
 use lib.ListN.{length}
@@ -71,5 +71,5 @@ pub close-less : {b c d k l : ℕ} {x y e f : List ℤ} (m : ℕ) → Close b k 
 close-less {b} m h g i j = looser (close-minus (looser (close-times m h) (le-refl b) j) g) i refl
 
 -- ---- in grains
-pub grains : {b k : ℕ} {x e : List ℤ} (g : ℕ) → b ≤ 1000 * g → Close b k x e → AllAtMostApart g k x e
-grains {b} {k} g l h = record { at = λ t. omega (arith, h .close t, mul-le-mul-right k l) }
+pub grains : {b k : ℕ} {x e : List ℤ} (g : ℕ) → 0 < k → b ≤ 1000 * g → Close b k x e → AllAtMostApart g k x e
+grains {b} {k} g some l h = record { at = λ t. record { denominator = some; size = omega (arith, h .close t, mul-le-mul-right k l) } }

@@ -1,14 +1,15 @@
 -- METHOD 6.3 and 6.4: how far a rounded series is from an exact one, whose numbers are whole numbers over a denominator k.
 use mathlib.Core.Path.{_≡_}
 use mathlib.Core.List.{List}
-use Prim.Native.Nat.{ℕ, _*_, _≤_}
+use Prim.Native.Nat.{ℕ, _*_, _≤_, _<_}
 use lib.ListN.{length}
 use lib.IntN.{ℤ, pos, natAbs, _-ℤ_, _*ℤ_}
 use Rattle.integers.specs.Lists.{_‼_}
 
--- the size of d less the fraction e / k is at most g grains
-abbrev pub AtMostApart : ℕ → ℕ → ℤ → ℤ → Type 0
-AtMostApart g k d e = natAbs (pos k *ℤ d -ℤ e) ≤ g * k
+-- the size of d less the fraction e / k, whose denominator is not 0, is at most g grains
+pub record AtMostApart (g k : ℕ) (d e : ℤ) : Type 0 where
+  pub denominator : 0 < k
+  pub size : natAbs (pos k *ℤ d -ℤ e) ≤ g * k
 
 -- of series: at every place; past the end both are 0
 pub record AllAtMostApart (g k : ℕ) (x e : List ℤ) : Type 0 where

@@ -19,7 +19,7 @@ times m (z ∷ zs) = (pos m *ℤ z) ∷ times m zs
 unfoldable pub pick : ℕ → (ℕ → ℕ) → List ℤ → List ℤ
 pick n g x = tab n (λ t. x ‼ g t)
 
--- METHOD 4.5: the change of a series over `span` months into month t, without its sign; and the sum of `count` of them, into the months from
+-- METHOD 4.5 and 4.6: the change of a series over `span` months into month t, without its sign; and the sum of `count` of them, into the months from
 -- `first` on
 abbrev pub changeInto : List ℤ → ℕ → ℕ → ℕ
 changeInto x span t = natAbs ((x ‼ t) -ℤ (x ‼ (t - span)))

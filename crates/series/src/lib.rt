@@ -34,7 +34,7 @@ fn change_into(x: &[i64], span: usize, t: usize) -> u64
     integers::size(x[t] - x[t - span])
 }
 
-// METHOD 4.5: the sum of the changes of x over `span` months into each month from `first` to below `hi`, without their signs.
+// METHOD 4.5 and 4.6: the sum of the changes of x over `span` months into each month from `first` to below `hi`, without their signs.
 pub fn changes(x: &[i64], span: usize, first: usize, hi: usize) -> u64
     requires { ⌜ Changing (now x) span first hi ⌝ }
     ensures { λ r. ⌜ (r ≡ changes (now (x .entry)) span first (hi - first)) × (r ≤ mostChange) ⌝ }

@@ -2,8 +2,8 @@
 -- the exact working on those.
 use mathlib.Core.Path.{refl}
 use mathlib.Core.List.{List}
-use Prim.Native.Nat.{ℕ, _+_, _*_, _-_, _≤_}
-use native.Mathlib.Nat.{le-refl}
+use Prim.Native.Nat.{ℕ, _+_, _*_, _-_, _≤_, _<_}
+use native.Mathlib.Nat.{le-refl, mul-pos}
 use native.Mathlib.Omega.{arith}
 use lib.ListN.{length}
 use lib.IntN.{ℤ}
@@ -11,7 +11,7 @@ use Rattle.filters.specs.Filter.{filter, exact, inside, exactInside}
 use Rattle.series.specs.Distance.{Close}
 use Rattle.series.proofs.Distances.{close-self, close-pick, looser, close-less, grains}
 use Rattle.filters.proofs.Distances.{close-filter, close-inside}
-use Rattle.replacing.proofs.ReplacedLaws.{close-replaced-by}
+use Rattle.replacing.proofs.ReplacedLaws.{common-some, close-replaced-by}
 use Rattle.steps.specs.Choices.{MovingAverage, Replacing, none, byWeights, replaced, exactReplaced, overReplaced, Choices}
 use Rattle.steps.specs.Steps.{level, T1, SI1, R1, M1, innerS1, S1, A1, T2, SI2, R2, M2, S2}
 use Rattle.steps.specs.Places.{inner, nearestLevel, copied, widened}
@@ -100,6 +100,21 @@ module _ {c : Choices} (ok : Sound c) {b k : ℕ} {x e : List ℤ} (h : Close b 
   unfolding S2 exactS2
   s2 = close-less (c .yearly .over) r2 m2 (omega arith) (omega arith)
 
+-- ---- no denominator is 0
+replaced-some : (r : Replacing) → 0 < overReplaced r
+replaced-some none = omega arith
+replaced-some (byWeights w) = common-some
+
+module _ {c : Choices} (ok : Sound c) where
+  overR1-some : 0 < overR1 c
+  overR1-some = mul-pos (mul-pos (ok .yearly-over) (replaced-some (c .replacing1))) (ok .seasonal1-over)
+
+  overT2-some : 0 < overT2 c
+  overT2-some = mul-pos (mul-pos overR1-some (ok .yearly-over)) (ok .trend-over)
+
+  pub overS2-some : 0 < overS2 c
+  overS2-some = mul-pos (mul-pos (mul-pos overT2-some (replaced-some (c .replacing2))) (ok .seasonal2-over)) (ok .yearly-over)
+
 -- ---- a series as it stands: b is 0
 module _ {c : Choices} (ok : Sound c) (x : List ℤ) (d : ℕ) (enough : 26 * added (c .replacing1) + 37_500 ≤ 10 * d) where
   pub own-t2 : Close d (overT2 c) (T2 c x) (exactT2 c x)
@@ -109,4 +124,4 @@ module _ {c : Choices} (ok : Sound c) (x : List ℤ) (d : ℕ) (enough : 26 * ad
   own-s2 = looser (s2 ok (close-self x) d (omega arith)) (omega arith) (omega arith)
 
   pub near : (g h : ℕ) → d ≤ 1000 * g → 2 * d + 2 * added (c .replacing2) + 1500 ≤ 1000 * h → Near c g h x (T2 c x) (S2 c x)
-  near g h i j = record { trend = grains g i own-t2; seasonal = grains h j own-s2 }
+  near g h i j = record { trend = grains g (overT2-some ok) i own-t2; seasonal = grains h (overS2-some ok) j own-s2 }

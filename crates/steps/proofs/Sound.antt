@@ -1,6 +1,6 @@
 -- What the laws of a pass ask of its choices.
 use mathlib.Core.Path.{_≡_, refl}
-use Prim.Native.Nat.{ℕ, _≤_}
+use Prim.Native.Nat.{ℕ, _≤_, _<_}
 use native.Mathlib.Omega.{arith}
 use Rattle.filters.specs.Filter.{reach}
 use Rattle.rows.specs.declared.SeasonalFilter.{SeasonalFilter}
@@ -19,6 +19,11 @@ pub record Sound (c : Choices) : Type 0 where
   pub seasonal1-norm : Norm 1000 (c .seasonal1)
   pub trend-norm : Norm 1300 (c .trend)
   pub seasonal2-norm : Norm 1000 (c .seasonal2)
+  -- the denominators of their exact working are not 0
+  pub yearly-over : 0 < c .yearly .over
+  pub seasonal1-over : 0 < c .seasonal1 .over
+  pub trend-over : 0 < c .trend .over
+  pub seasonal2-over : 0 < c .seasonal2 .over
   -- half a year is two quarters or more; the yearly average stands where half a year lies on each side
   pub year-least : 2 ≤ c .halfYear
   pub reach-is : reach (c .yearly .table) ≡ c .halfYear
@@ -31,6 +36,10 @@ monthly-sound f r s = record {
   seasonal1-norm = lightSeasonal ThreeByThree;
   trend-norm = lightThirteen;
   seasonal2-norm = lightSeasonal f;
+  yearly-over = omega arith;
+  seasonal1-over = omega arith;
+  trend-over = omega arith;
+  seasonal2-over = omega arith;
   year-least = omega arith;
   reach-is = refl;
 }

@@ -1,4 +1,4 @@
--- What a pass chooses. METHOD 3 settles every choice; the steps and their exact working are stated for any, and take the same value, so that the exact
+-- What a pass chooses. METHOD 3 and 4.6 settle every choice; the steps and their exact working are stated for any, and take the same value, so that the exact
 -- working holds what the rounded steps chose.
 use mathlib.Core.List.{List}
 use Prim.Native.Nat.{ℕ, _*_}
@@ -21,8 +21,8 @@ abbrev pub average2x12 : MovingAverage
 average2x12 = record { table = table2x12; over = 24 }
 
 -- a seasonal filter: 3×3, 3×5 or 3×9 (METHOD 2.3, 2.4, 2.8)
-abbrev pub seasonal : SeasonalFilter → MovingAverage
-seasonal f = record { table = tableSeasonal f; over = overSeasonal }
+abbrev pub averageSeasonal : SeasonalFilter → MovingAverage
+averageSeasonal f = record { table = tableSeasonal f; over = overSeasonal }
 
 -- Henderson's filter of so many terms, with its ends (METHOD 2.5, 2.6)
 abbrev pub henderson : Terms → MovingAverage
@@ -71,9 +71,9 @@ monthly f replacing1 replacing2 =
     record {
       halfYear = 6;
       yearly = average2x12;
-      seasonal1 = seasonal ThreeByThree;
+      seasonal1 = averageSeasonal ThreeByThree;
       trend = henderson Thirteen;
-      seasonal2 = seasonal f;
+      seasonal2 = averageSeasonal f;
       replacing1 = replacing1;
       replacing2 = replacing2;
     }

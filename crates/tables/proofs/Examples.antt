@@ -18,7 +18,7 @@ use Rattle.extremes.specs.Years.{months, centre, yearOf, monthOf, years, yearSt
 use Rattle.extremes.specs.Spreads.{sizeOf, sizesOf, squares, spread, keep, remaining, secondSpread}
 use Rattle.extremes.specs.Weighing.{weight, weightBy, monthWeight, weightsBy, weightsOf, correctionOf}
 use Rattle.tables.specs.PassB.{irregularB4, weightsB4, irregularB9, weightsB9}
-use Rattle.tables.specs.Tables.{irregularOf, corrections, B1, B7, B10, B13, B17, B20, C1, C7, C10, C13, C17, C20, D1, finalSeasonal, D10, finalTerms, D12}
+use Rattle.tables.specs.Tables.{irregularOf, corrections, B1, B7, B10, B13, B17, B20, C1, C7, C10, C13, C17, C20, D1, finalSeasonalFilter, D10, finalTerms, D12}
 use Rattle.tables.specs.Examples.{flooded, FloodedJanuary, rippled, ChosenByPassC}
 
 pub examples : FloodedJanuary × ChosenByPassC
@@ -28,8 +28,8 @@ unfolding tabFrom tab oneMore rootIn root halfUp awayFromZero halfToEven toGrain
     sumAt isReplaced countedSum counted replacedAt replacedBy inner nearestLevel copied widened level T1 SI1 R1 M1 innerS1 S1 A1 T2 SI2 R2 M2 S2
     months centre yearOf monthOf years yearStart groupAround group sizeOf sizesOf squares spread keep remaining secondSpread
     weight weightBy monthWeight weightsBy weightsOf correctionOf irregularB4 weightsB4 irregularB9 weightsB9 irregularOf corrections
-    B1 B7 B10 B13 B17 B20 C1 C7 C10 C13 C17 C20 D1 finalSeasonal D10 finalTerms D12 flooded rippled
+    B1 B7 B10 B13 B17 B20 C1 C7 C10 C13 C17 C20 D1 finalSeasonalFilter D10 finalTerms D12 flooded rippled
 examples = (
   record { weights-si1 = refl; weights-si2 = refl; seasonal = refl; unreplaced = refl },
-  record { terms = refl; filter = refl; final = refl },
+  record { terms = refl; filter = refl; seasonal = refl; final = refl },
 )

@@ -2,7 +2,7 @@
 use mathlib.Core.Path.{_≡_, refl}
 use mathlib.Core.List.{List}
 use Prim.Native.Nat.{ℕ, _+_, _<_}
-use native.Mathlib.Nat.{le-refl}
+use native.Mathlib.Nat.{le-refl, mul-pos}
 use native.Mathlib.Omega.{arith}
 use lib.ListN.{length}
 use lib.IntN.{ℤ, _+ℤ_}
@@ -20,8 +20,8 @@ use Rattle.steps.specs.Choices.{none, henderson}
 use Rattle.steps.specs.Steps.{S2}
 use Rattle.steps.specs.Exact.{exactS2}
 use Rattle.steps.proofs.Sound.{Sound, monthly-sound, plain-sound}
-use Rattle.steps.proofs.Distances.{near, own-s2, close-norm}
-use Rattle.tables.specs.Tables.{choicesD, B1, B7, B10, C1, C7, C10, D1, finalSeasonal, D10, D11, finalTerms, D12, D13}
+use Rattle.steps.proofs.Distances.{near, overS2-some, own-s2, close-norm}
+use Rattle.tables.specs.Tables.{choicesD, B1, B7, B10, C1, C7, C10, D1, finalSeasonalFilter, D10, D11, finalTerms, D12, D13}
 use Rattle.tables.specs.Exact.{overD10, overE, E10, E11, E12, E13}
 use Rattle.tables.specs.Nearness.{PassesNear, NearAt}
 use Rattle.tables.proofs.Sizes.{length-b1}
@@ -69,13 +69,16 @@ module _ (start : ℕ) (f : List ℤ) where
   d1 = D1 start f
 
   abbrev g : SeasonalFilter
-  g = finalSeasonal start f
+  g = finalSeasonalFilter start f
 
   abbrev terms : Terms
   terms = finalTerms start f
 
   s2 : Close farS2 (overD10 g) (S2 (choicesD g) d1) (exactS2 (choicesD g) d1)
   s2 = own-s2 (sound-d g) d1 farT2 (omega arith)
+
+  overE-some : 0 < overE g
+  overE-some = mul-pos {n = overHenderson} (overS2-some (sound-d g)) (omega arith)
 
   d10 : Close farS2 (overE g) (D10 start f) (E10 g d1)
   unfolding D10 E10
@@ -85,7 +88,7 @@ module _ (start : ℕ) (f : List ℤ) where
   unfolding D11 E11
   d11 = close-less (overE g) (close-self b1) d10 (le-refl farS2) refl
 
-  d12 : Close farD12 (overE g) (D12 start f) (E12 g b1 d1 terms)
+  d12 : Close farD12 (overE g) (D12 start f) (E12 g d1 terms)
   unfolding D12 D10 E12
   d12 = close-norm (close-less (overD10 g) (close-self d1) s2 (le-refl farS2) refl) (henderson terms) 1440 farD12 (lightHenderson terms) (omega arith)
 
@@ -100,9 +103,9 @@ module _ (start : ℕ) (f : List ℤ) where
   -- the tables of the rules, at each month
   pub near-at : (t : ℕ) → t < length f → NearAt g terms b1 d1 (D10 start f) (D11 start f) (D12 start f) (D13 start f) t
   near-at t h = record {
-    seasonal = grains 10 (omega arith) d10 .at t;
-    adjusted = grains 10 (omega arith) d11 .at t;
-    trend = grains 15 (omega arith) d12 .at t;
-    irregular = grains 25 (omega arith) d13 .at t;
+    seasonal = grains 10 overE-some (omega arith) d10 .at t;
+    adjusted = grains 10 overE-some (omega arith) d11 .at t;
+    trend = grains 15 overE-some (omega arith) d12 .at t;
+    irregular = grains 25 overE-some (omega arith) d13 .at t;
     adds-up = adds-up t (omega (arith, length-b1 start f));
   }

@@ -20,21 +20,21 @@ module _ (f : SeasonalFilter) where
   abbrev pub overE : ℕ
   overE = overD10 * overHenderson
 
-  -- METHOD 6.2: E10, the exact seasonal, is the exact S2 of D1, by that filter
+  -- METHOD 6.2: the exact S2 of D1, by that filter, over overD10; E10, the exact seasonal, is the same over overE
+  abbrev pub exactD10 : List ℤ → List ℤ
+  exactD10 d1 = exactS2 (choicesD f) d1
+
   unfoldable pub E10 : List ℤ → List ℤ
-  E10 d1 = times overHenderson (exactS2 (choicesD f) d1)
+  E10 d1 = times overHenderson (exactD10 d1)
 
-module _ (f : SeasonalFilter) (b1 d1 : List ℤ) where
   -- METHOD 6.2: E11, the adjusted figure by it, is B1 less E10
-  unfoldable pub E11 : List ℤ
-  E11 = minus (times (overE f) b1) (E10 f d1)
+  unfoldable pub E11 : List ℤ → List ℤ → List ℤ
+  E11 b1 d1 = minus (times overE b1) (E10 d1)
 
-  -- `terms` is the length of D12's filter
-  module _ (terms : Terms) where
-    -- METHOD 6.2: E12, the exact trend-cycle, is the exact Henderson of the difference D1 less E10, by the filter of that length
-    unfoldable pub E12 : List ℤ
-    E12 = exact (tableHenderson terms) overHenderson (minus (times (overD10 f) d1) (exactS2 (choicesD f) d1))
+  -- METHOD 6.2: E12, the exact trend-cycle, is the exact Henderson of the difference D1 less E10, by the filter of the length of D12's, `terms`
+  unfoldable pub E12 : List ℤ → Terms → List ℤ
+  E12 d1 terms = exact (tableHenderson terms) overHenderson (minus (times overD10 d1) (exactD10 d1))
 
-    -- METHOD 6.2: E13, the exact irregular, is E11 less E12
-    unfoldable pub E13 : List ℤ
-    E13 = minus E11 E12
+  -- METHOD 6.2: E13, the exact irregular, is E11 less E12
+  unfoldable pub E13 : List ℤ → List ℤ → Terms → List ℤ
+  E13 b1 d1 terms = minus (E11 b1 d1) (E12 d1 terms)

@@ -9,12 +9,12 @@ use lib.ListN.{getD}
 use lib.IntN.{ℤ, pos, negℤ}
 use Rattle.integers.specs.Lists.{tab}
 use Rattle.refusals.specs.Limits.{monthsOfYear}
-use Rattle.rows.specs.declared.SeasonalFilter.the-variants.{ThreeByFive}
-use Rattle.rows.specs.declared.Terms.the-variants.{Thirteen}
+use Rattle.rows.specs.declared.SeasonalFilter.the-variants.{ThreeByNine}
+use Rattle.rows.specs.declared.Terms.the-variants.{Nine}
 use Rattle.steps.specs.Choices.{plainMonthly}
 use Rattle.steps.specs.Steps.{S2}
 use Rattle.tables.specs.PassB.{weightsB4, weightsB9}
-use Rattle.tables.specs.Tables.{B1, B10, finalSeasonal, finalTerms, D12}
+use Rattle.tables.specs.Tables.{B1, B10, finalSeasonalFilter, D10, finalTerms, D12}
 
 -- METHOD 4.4: 72 figures from start month 7, each 1,000 and the remainder of t times t by 17; but 500 at t = 18, the second January
 unfoldable pub flooded : List ℤ
@@ -33,13 +33,13 @@ pub record FloodedJanuary : Type 0 where
   pub unreplaced : yearByYear (pos 0) 6 6 (S2 plainMonthly (B1 7 flooded))
       ≡ negℤ (pos 133362) ∷ negℤ (pos 117774) ∷ negℤ (pos 99436) ∷ negℤ (pos 61201) ∷ negℤ (pos 30695) ∷ negℤ (pos 2958) ∷ []
 
--- METHOD 4.5 and 4.6: 72 figures from start month 7, each 1,000, ten times t and the remainder of 37 t by 45
+-- METHOD 4.5 and 4.6: 72 figures from start month 7, each 1,000, twelve times t and the remainder of 2 t² + 13 t by 49
 unfoldable pub rippled : List ℤ
-rippled = tab 72 (λ t. pos (1000 + 10 * t + (37 * t) % 45))
+rippled = tab 72 (λ t. pos (1000 + 12 * t + (2 * t * t + 13 * t) % 49))
 
--- METHOD 4.5 and 4.6: by C13, C7 and C10 the final trend has 13 terms and pass D takes 3×5; by the tables of pass B, and by those of pass D, they
--- would be 9 terms and 3×9. What the Januaries get in D12
+-- METHOD 4.5 and 4.6: the final trend has 9 terms, and pass D takes 3×9, by the second question. What the Januaries get in D10 and D12
 pub record ChosenByPassC : Type 0 where
-  pub terms : finalTerms 7 rippled ≡ Thirteen
-  pub filter : finalSeasonal 7 rippled ≡ ThreeByFive
-  pub final : yearByYear (pos 0) 6 6 (D12 7 rippled) ≡ map pos (1_091_705 ∷ 1_206_533 ∷ 1_320_698 ∷ 1_438_194 ∷ 1_557_718 ∷ 1_676_957 ∷ [])
+  pub terms : finalTerms 7 rippled ≡ Nine
+  pub filter : finalSeasonalFilter 7 rippled ≡ ThreeByNine
+  pub seasonal : yearByYear (pos 0) 6 6 (D10 7 rippled) ≡ map (λ m. negℤ (pos m)) (17_888 ∷ 17_439 ∷ 17_206 ∷ 17_229 ∷ 16_987 ∷ 16_498 ∷ [])
+  pub final : yearByYear (pos 0) 6 6 (D12 7 rippled) ≡ map pos (1_096_732 ∷ 1_237_598 ∷ 1_375_082 ∷ 1_530_792 ∷ 1_678_021 ∷ 1_819_587 ∷ [])

@@ -81,12 +81,12 @@ module _ (start : ℕ) (figures : List ℤ) where
   D1 = minus B1 C20
 
   -- METHOD 4.6: which seasonal filter pass D takes, by the noise of C13 beside C10
-  unfoldable pub finalSeasonal : SeasonalFilter
-  finalSeasonal = chosenFilter monthsOfYear C13 C10
+  unfoldable pub finalSeasonalFilter : SeasonalFilter
+  finalSeasonalFilter = chosenFilter monthsOfYear C13 C10
 
   -- METHOD 4.3, pass D works on D1: D10, the final seasonal, is its S2, by that filter; D11, the adjusted figure, is B1 less D10
   unfoldable pub D10 : List ℤ
-  D10 = S2 (choicesD finalSeasonal) D1
+  D10 = S2 (choicesD finalSeasonalFilter) D1
 
   unfoldable pub D11 : List ℤ
   D11 = minus B1 D10

@@ -5,7 +5,7 @@ use Prim.Native.Nat.{ℕ, _<_}
 use lib.ListN.{length}
 use lib.IntN.{ℤ}
 use Rattle.refusals.specs.Numbers.{numberOf, placeOf}
-use Rattle.tables.specs.Tables.{B1, D1, finalSeasonal, finalTerms}
+use Rattle.tables.specs.Tables.{B1, D1, finalSeasonalFilter, finalTerms}
 use Rattle.tables.specs.Nearness.{PassesNear, NearAt}
 use Rattle.decompose.specs.Promise.{Slices, answer, after}
 
@@ -16,5 +16,5 @@ pub record DecomposeNumbers (start : ℕ) (figures : List ℤ) (lent : Slices) (
   pub place-is : place ≡ placeOf (answer start figures lent)
   pub slices : left ≡ after (answer start figures lent) start figures lent
   pub near : number ≡ 0 → (t : ℕ) → t < length figures
-      → NearAt (finalSeasonal start figures) (finalTerms start figures) (B1 start figures) (D1 start figures) (left .d10) (left .d11) (left .d12) (left .d13) t
+      → NearAt (finalSeasonalFilter start figures) (finalTerms start figures) (B1 start figures) (D1 start figures) (left .d10) (left .d11) (left .d12) (left .d13) t
   pub passes : PassesNear start figures

@@ -4,7 +4,7 @@ use mathlib.Core.Path.{ap, _∙_}
 use native.Mathlib.Omega.{arith}
 use Rattle.rows.specs.declared.SeasonalFilter.the-variants.{ThreeByThree}
 use Rattle.rows.specs.FilterTables.{table2x12, tableSeasonal}
-use Rattle.steps.specs.Choices.{seasonal}
+use Rattle.steps.specs.Choices.{averageSeasonal}
 use Rattle.steps.specs.Places.{widened}
 use Rattle.steps.proofs.Sound.{plain-sound}
 use Rattle.steps.proofs.ByMonth.{inner-months}
@@ -22,7 +22,7 @@ three-by-three-requires c κs = let s = c .before .pre in (s .filterable, omega 
 
 without-level-requires : tie.Need-without-level-requires
 without-level-requires c κs = let r = c .before .before .before .before in let s = r .before .before .pre in
-    (mean-filterable (seasonal ThreeByThree) (plain-sound .seasonal1-norm) (s .filterable) (s .r-long) (r .three-by-three .ensures), omega (arith, s .long), omega (arith, s .m-long, s .r-long), omega (arith, s .out-long, s .r-long))
+    (mean-filterable (averageSeasonal ThreeByThree) (plain-sound .seasonal1-norm) (s .filterable) (s .r-long) (r .three-by-three .ensures), omega (arith, s .long), omega (arith, s .m-long, s .r-long), omega (arith, s .out-long, s .r-long))
 
 widen-requires : tie.Need-widen-requires
 widen-requires c κs = search needs

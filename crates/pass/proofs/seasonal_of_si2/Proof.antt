@@ -3,7 +3,7 @@
 use mathlib.Core.Path.{refl, _∙_}
 use native.Mathlib.Omega.{arith}
 use Rattle.rows.specs.FilterTables.{table2x12, tableSeasonal}
-use Rattle.steps.specs.Choices.{seasonal}
+use Rattle.steps.specs.Choices.{averageSeasonal}
 use Rattle.filters.proofs.Light.{lightSeasonal}
 use Rattle.filters.proofs.ByMonth.{all-months}
 use Rattle.steps.proofs.Sound.{plain-sound}
@@ -18,7 +18,7 @@ seasonal-requires c κs = let s = c .before .before .pre in (all-months (s .filt
 
 without-level-requires : tie.Need-without-level-requires
 without-level-requires c κs = let r = c .before .before .before .before in let s = r .before .before .before .pre in
-    (mean-filterable (seasonal (r .before .before .before .args .chosen)) (lightSeasonal (r .before .before .before .args .chosen)) (all-months (s .filterable)) (s .r-long) (r .seasonal .ensures), omega (arith, s .long), omega (arith, s .r-long), omega (arith, s .out-long, s .r-long))
+    (mean-filterable (averageSeasonal (r .before .before .before .args .chosen)) (lightSeasonal (r .before .before .before .args .chosen)) (all-months (s .filterable)) (s .r-long) (r .seasonal .ensures), omega (arith, s .long), omega (arith, s .r-long), omega (arith, s .out-long, s .r-long))
 
 same-length : tie.Need-same-length
 same-length c = search needs
