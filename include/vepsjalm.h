@@ -3,10 +3,10 @@
    the C library is needed. examples/decompose.c is a whole caller of reading and decomposing, examples/final-weights.c of writing too,
    examples/columns.c of moving a file from one form to the other.
 
-   The filters are 2x12, 3x3, 3x5 and Henderson's with Musgrave's ends: 13 terms in a pass, and 9, 13 or 23 for the final trend, chosen by how
-   noisy the series is (docs/METHOD.md, 4.5) and not told. Extreme months are found by the library itself; in its first pass their values are
-   replaced by means of their neighbours (3.8). What is filtered or corrected is rounded to the nearest thousandth, a half to the even one
-   (1.3). No multiplicative working, calendar effects, forecasts or choice of seasonal filter.
+   The filters are 2x12, 3x3, 3x5 and Henderson's with Musgrave's ends: 13 terms in a pass, and 9, 13 or 23 for the final trend. The last pass
+   takes 3x3, 3x5 or 3x9 for the final seasonal. Both choices go by how noisy the series is (docs/METHOD.md, 4.5 and 4.6) and are not told. Extreme
+   months are found by the library itself; in its first pass their values are replaced by means of their neighbours (3.8). What is filtered or
+   corrected is rounded to the nearest thousandth, a half to the even one (1.3). No multiplicative working, calendar effects or forecasts.
 
    For all seven functions:
 
@@ -31,9 +31,9 @@
 /* The version of this header and of the library that goes with it (the library does not tell its own), major.minor.patch. The minor number
    goes up with every landing that changes what callers see, the patch number with every other; the major number is 0 while functions and
    constants may still change. */
-#define VEPSJALM_VERSION "0.14.0"
+#define VEPSJALM_VERSION "0.15.0"
 #define VEPSJALM_VERSION_MAJOR 0
-#define VEPSJALM_VERSION_MINOR 14
+#define VEPSJALM_VERSION_MINOR 15
 #define VEPSJALM_VERSION_PATCH 0
 
 /* The limits. */
@@ -116,8 +116,8 @@ extern "C" {
    place       set to the refusal's place; 0 after success
 
    After success, in every month, d10 + d11 and d10 + d12 + d13 are each the figure times 1,000; and beside the last pass worked in exact
-   fractions from the same corrected series, with the same length of the trend's filter, d10 and d11 are within 10 thousandths, d12 within 15
-   and d13 within 25. */
+   fractions from the same corrected series, with the same seasonal filter and the same length of the trend's, d10 and d11 are within 10
+   thousandths, d12 within 15 and d13 within 25. */
 uint8_t vepsjalm_decompose(
     const int32_t *figures, size_t figures_length, uint8_t start,
     int64_t *d10, size_t d10_length, int64_t *d11, size_t d11_length,

@@ -3,7 +3,9 @@
 use crate::calendar::labels;
 use crate::extremes::Extremes;
 use crate::noise::Noise;
-use crate::pass::{henderson, pass, pass_b, PassB, Steps};
+use crate::pass::{henderson, pass, pass_b, pass_with, PassB, Steps};
+use crate::rows::SeasonalFilter;
+use crate::seasonality::{chosen, questions, Question};
 use crate::spread::{correction, weights};
 use std::fmt;
 
@@ -107,6 +109,10 @@ pub struct Tables {
     pub c17: Vec<u16>,
     pub c20: Vec<i64>,
     pub d1: Vec<i64>,
+    /// The questions asked of pass C about the seasonal filter of pass D, and
+    /// the filter chosen.
+    pub questions: Vec<Question>,
+    pub seasonal_filter: SeasonalFilter,
     pub d: Steps,
     pub d10: Vec<i64>,
     /// The sums of pass C that choose the length of the final trend, and the
@@ -160,7 +166,9 @@ fn work(figures: &[i32], start: u8) -> Result<Tables, Refusal> {
     let c20 = corrections(&c13, &c17);
     let d1 = less(&b1, &c20);
 
-    let d = pass(&d1);
+    let questions = questions(&c13, &c10);
+    let seasonal_filter = chosen(&questions);
+    let d = pass_with(&d1, seasonal_filter);
     let d10 = d.s2.values.clone();
     let d11 = less(&b1, &d10);
     let noise = Noise::of(&c13, &c7);
@@ -188,6 +196,8 @@ fn work(figures: &[i32], start: u8) -> Result<Tables, Refusal> {
         c17,
         c20,
         d1,
+        questions,
+        seasonal_filter,
         d,
         d10,
         noise,

@@ -4,7 +4,7 @@
 
 use crate::calendar::{labels, run};
 use crate::fraction::Fraction;
-use crate::rows::{henderson_at, three_by_five, three_by_three, T2_TERMS};
+use crate::rows::{henderson_at, SeasonalFilter, ThreeByFive, ThreeByThree, T2_TERMS};
 use std::cmp::Ordering;
 use std::collections::BTreeMap;
 
@@ -46,7 +46,7 @@ fn two_by_twelve(table: &ByMonth) -> ByMonth {
     out
 }
 
-fn over_runs(table: &ByMonth, row: fn(usize, usize) -> Vec<i128>, reach: usize, divisor: i128) -> ByMonth {
+fn over_runs(table: &ByMonth, filter: SeasonalFilter) -> ByMonth {
     let mut out = ByMonth::new();
     let (Some(&first), Some(&last)) = (table.keys().next(), table.keys().next_back()) else {
         return out;
@@ -55,13 +55,13 @@ fn over_runs(table: &ByMonth, row: fn(usize, usize) -> Vec<i128>, reach: usize, 
     for month in 1..=12 {
         let places = run(&labels, month, first, last);
         for (index, &t) in places.iter().enumerate() {
-            let from = index.saturating_sub(reach);
-            let to = (index + reach).min(places.len() - 1);
-            let weights = row(index - from, to - index);
+            let from = index.saturating_sub(filter.reach());
+            let to = (index + filter.reach()).min(places.len() - 1);
+            let row = filter.row(index - from, to - index);
             let terms: Vec<(i128, &Fraction)> =
-                weights.iter().copied().zip(places[from..=to].iter().map(|s| &table[s])).collect();
-            assert_eq!(terms.len(), weights.len());
-            out.insert(t, Fraction::weighted_sum(&terms, divisor));
+                row.weights.iter().copied().zip(places[from..=to].iter().map(|s| &table[s])).collect();
+            assert_eq!(terms.len(), row.weights.len());
+            out.insert(t, Fraction::weighted_sum(&terms, row.divisor));
         }
     }
     out
@@ -86,53 +86,48 @@ pub struct ExactPass {
     pub s2: Vec<Fraction>,
 }
 
+/// The values of other months: at each month from first to last that of its
+/// source.
+fn lent(table: &ByMonth, first: usize, last: usize, source: impl Fn(usize) -> usize) -> ByMonth {
+    (first..=last).map(|t| (t, table[&source(t)].clone())).collect()
+}
+
 fn listed(table: ByMonth) -> Vec<Fraction> {
     table.into_values().collect()
 }
 
+/// The exact pass with 3×5 in step 6.
 pub fn exact_pass(series: &[i64]) -> ExactPass {
+    exact_pass_with(series, ThreeByFive)
+}
+
+/// The same with another filter in step 6.
+pub fn exact_pass_with(series: &[i64], filter: SeasonalFilter) -> ExactPass {
     let n = series.len();
     assert!(n >= 72);
     let x = from_grains(series);
 
     let t1 = two_by_twelve(&x);
     let si1 = difference(&x, &t1);
-    let r1 = over_runs(&si1, three_by_three, 2, 27);
+    let r1 = over_runs(&si1, ThreeByThree);
 
-    let mut m1 = two_by_twelve(&r1);
-    for t in 6..=11 {
-        let lent = m1[&12].clone();
-        m1.insert(t, lent);
-    }
-    for t in n - 12..=n - 7 {
-        let lent = m1[&(n - 13)].clone();
-        m1.insert(t, lent);
-    }
-    let mut s1 = difference(&r1, &m1);
-    for t in 0..6 {
-        let lent = s1[&(t + 12)].clone();
-        s1.insert(t, lent);
-    }
-    for t in n - 6..n {
-        let lent = s1[&(t - 12)].clone();
-        s1.insert(t, lent);
-    }
-    assert_eq!(s1.len(), n);
+    let m1 = lent(&two_by_twelve(&r1), 6, n - 7, |t| t.clamp(12, n - 13));
+    let s1 = lent(&difference(&r1, &m1), 0, n - 1, |t| {
+        if t < 6 {
+            t + 12
+        } else if t > n - 7 {
+            t - 12
+        } else {
+            t
+        }
+    });
 
     let a1 = difference(&x, &s1);
     let t2 = henderson(&a1, T2_TERMS);
     let si2 = difference(&x, &t2);
-    let r2 = over_runs(&si2, three_by_five, 3, 60);
+    let r2 = over_runs(&si2, filter);
 
-    let mut m2 = two_by_twelve(&r2);
-    for t in 0..6 {
-        let lent = m2[&6].clone();
-        m2.insert(t, lent);
-    }
-    for t in n - 6..n {
-        let lent = m2[&(n - 7)].clone();
-        m2.insert(t, lent);
-    }
+    let m2 = lent(&two_by_twelve(&r2), 0, n - 1, |t| t.clamp(6, n - 7));
     let s2 = difference(&r2, &m2);
     assert_eq!((t2.len(), s2.len()), (n, n));
     ExactPass { t2: listed(t2), s2: listed(s2) }
@@ -148,10 +143,10 @@ pub struct ExactTables {
 }
 
 /// The exact working of the original series B1 and the corrected series D1,
-/// the final trend having so many terms.
-pub fn exact_working(b1: &[i64], d1: &[i64], terms: usize) -> ExactTables {
+/// with the filter of step 6 and the terms of the final trend.
+pub fn exact_working(b1: &[i64], d1: &[i64], filter: SeasonalFilter, terms: usize) -> ExactTables {
     assert_eq!(b1.len(), d1.len());
-    let e10: ByMonth = exact_pass(d1).s2.into_iter().enumerate().collect();
+    let e10: ByMonth = exact_pass_with(d1, filter).s2.into_iter().enumerate().collect();
     let e11 = difference(&from_grains(b1), &e10);
     let e12 = henderson(&difference(&from_grains(d1), &e10), terms);
     let e13 = difference(&e11, &e12);

@@ -6,7 +6,7 @@
 //! number, which only grows from step to step.
 
 use crate::calendar::{labels, run};
-use crate::rows::{henderson_at, henderson_rows, three_by_five, three_by_three, MILLION, T2_TERMS};
+use crate::rows::{henderson_at, henderson_rows, SeasonalFilter, ThreeByFive, ThreeByThree, MILLION, T2_TERMS};
 use crate::whole::Whole;
 use std::cmp::Ordering;
 use std::collections::BTreeMap;
@@ -60,16 +60,18 @@ impl OverOne {
         })
     }
 
-    fn over_runs(&self, row: fn(usize, usize) -> Vec<i128>, reach: usize, divisor: i128) -> OverOne {
+    fn over_runs(&self, filter: SeasonalFilter) -> OverOne {
+        let reach = filter.reach();
+        let divisor = filter.row(reach, reach).divisor;
         let labels = labels(1, self.last() + 1);
         self.filtered(self.first, self.last(), divisor, |t| {
             let places = run(&labels, labels[t].month, self.first, self.last());
             let index = places.iter().position(|&place| place == t).expect("a month of its run");
             let from = index.saturating_sub(reach);
             let to = (index + reach).min(places.len() - 1);
-            let weights = row(index - from, to - index);
-            assert_eq!(weights.len(), to - from + 1);
-            places[from..=to].iter().copied().zip(weights).collect()
+            let row = filter.row(index - from, to - index);
+            assert_eq!((row.weights.len(), row.divisor), (to - from + 1, divisor));
+            places[from..=to].iter().copied().zip(row.weights).collect()
         })
     }
 
@@ -134,7 +136,7 @@ pub fn exact_pass_b(series: &[i64], of_si1: &Held, of_si2: &Held) -> ExactPassB 
     let x = OverOne::from_grains(series);
 
     let si1 = x.less(&x.two_by_twelve());
-    let r1 = si1.replaced(of_si1).over_runs(three_by_three, 2, 27);
+    let r1 = si1.replaced(of_si1).over_runs(ThreeByThree);
     let m1 = r1.two_by_twelve().lent(6, n - 7, |t| t.clamp(12, n - 13));
     let s1 = r1.less(&m1).lent(0, n - 1, |t| {
         if t < 6 {
@@ -148,7 +150,7 @@ pub fn exact_pass_b(series: &[i64], of_si1: &Held, of_si2: &Held) -> ExactPassB 
 
     let t2 = x.less(&s1).henderson();
     let si2 = x.less(&t2);
-    let r2 = si2.replaced(of_si2).over_runs(three_by_five, 3, 60);
+    let r2 = si2.replaced(of_si2).over_runs(ThreeByFive);
     let m2 = r2.two_by_twelve().lent(0, n - 1, |t| t.clamp(6, n - 7));
     ExactPassB { t2, s2: r2.less(&m2) }
 }

@@ -5,7 +5,8 @@
 use crate::calendar::{labels_of_part, run, Label};
 use crate::decompose::Refusal;
 use crate::exact_b::Held;
-use crate::pass::{seasonal, Fractions, Placed, RunFilter, Seasonal};
+use crate::pass::{seasonal, Fractions, Placed, Seasonal};
+use crate::rows::SeasonalFilter;
 use crate::spread::weights;
 
 pub const FULL_WEIGHT: u16 = 1000;
@@ -89,7 +90,7 @@ pub struct Extremes {
 impl Extremes {
     /// Works a table's extreme values, with the labels of the whole series.
     /// The years of the weights are those of the months that the table has.
-    pub fn of(si: &Placed, filter: RunFilter, labels: &[Label]) -> Result<Extremes, Refusal> {
+    pub fn of(si: &Placed, filter: SeasonalFilter, labels: &[Label]) -> Result<Extremes, Refusal> {
         let seasonal = seasonal(si, filter);
         let irregular = si.less(&seasonal.s);
         let labels = labels_of_part(labels, si.first, si.last());

@@ -7,6 +7,11 @@ use crate::pass::henderson;
 use crate::rounding::is_half;
 use crate::rows::T2_TERMS;
 
+mod seasonal;
+
+pub use seasonal::{moving_for_decades, moving_seasonal, place_by_questions};
+pub use seasonal::{seasonal_bounds, seasonal_choices, seasonals_without_changes};
+
 /// A small generator of numbers with a fixed seed (xorshift, then a multiply).
 pub struct Dice {
     state: u64,
@@ -131,13 +136,25 @@ type Made = fn(u64) -> Case;
 /// for the middle or the ends, and with the kind of the half from 0 to 3, in
 /// the order of the kinds above.  The middle row of 9 terms meets none: its
 /// divisor is odd.
-const HALVES_OF_THE_FINAL_TREND: [(&str, bool, Made, [(u64, usize); 2]); 5] = [
-    ("D D12-9", false, wandering, [(65_646, 0), (36_338, 2)]),
-    ("D D12-13", true, wandering, [(2_584, 0), (735, 1)]),
-    ("D D12-13", false, wandering, [(66_602, 3), (107_604, 1)]),
-    ("D D12-23", true, smaller_random, [(119_506, 0), (32_845, 1)]),
-    ("D D12-23", false, smaller_random, [(259_338, 0), (221_412, 1)]),
+const HALVES_OF_THE_FINAL_TREND: [(&str, bool, Made, u64, usize); 10] = [
+    ("D D12-9", false, wandering, 6_828, 1),
+    ("D D12-9", false, wandering_higher, 36_338, 0),
+    ("D D12-13", true, wandering, 359, 0),
+    ("D D12-13", true, wandering, 4_436, 1),
+    ("D D12-13", false, wandering, 301_098, 1),
+    ("D D12-13", false, wandering_higher, 164_710, 0),
+    ("D D12-23", true, smaller_random, 2_597, 0),
+    ("D D12-23", true, smaller_random, 45_020, 1),
+    ("D D12-23", false, smaller_random, 33_593, 0),
+    ("D D12-23", false, smaller_random, 124_530, 1),
 ];
+
+/// A wandering series a thousand units higher: so is its trend, so that a half
+/// below zero comes to stand above it, between grains as odd and as even.
+fn wandering_higher(seed: u64) -> Case {
+    let Case { name, start, figures } = wandering(seed);
+    Case { name: format!("higher_{name}"), start, figures: figures.iter().map(|figure| figure + 1_000).collect() }
+}
 
 /// The same series with every sign turned.
 fn turned_over(series: &Case) -> Case {
@@ -150,12 +167,10 @@ fn turned_over(series: &Case) -> Case {
 /// are, and the kind k is 3 - k.
 pub fn halves_of_the_final_trend() -> Vec<(&'static str, bool, usize, Case)> {
     let mut list = Vec::new();
-    for (table, in_the_middle, made, seeds) in HALVES_OF_THE_FINAL_TREND {
-        for (seed, kind) in seeds {
-            let series = made(seed);
-            list.push((table, in_the_middle, 3 - kind, turned_over(&series)));
-            list.push((table, in_the_middle, kind, series));
-        }
+    for (table, in_the_middle, made, seed, kind) in HALVES_OF_THE_FINAL_TREND {
+        let series = made(seed);
+        list.push((table, in_the_middle, 3 - kind, turned_over(&series)));
+        list.push((table, in_the_middle, kind, series));
     }
     list
 }
@@ -631,6 +646,11 @@ pub fn cases() -> Vec<Case> {
     // The length of the final trend.
     list.extend(trend_lengths().into_iter().map(|(case, _)| case));
     list.extend(series_at_the_bounds().into_iter().map(|(case, _)| case));
+
+    // The seasonal filter of pass D.
+    list.extend(seasonal_choices().into_iter().map(|(case, _)| case));
+    list.extend(seasonal_bounds().into_iter().map(|(case, _)| case));
+    list.extend(seasonals_without_changes());
 
     list.push(Case { name: "book_n114_s10".to_string(), start: 10, figures: book_series() });
     list

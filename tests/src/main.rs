@@ -13,17 +13,23 @@ use separate::exact::{distance, exact_pass, exact_working, FourDistances};
 use separate::exact_b::{exact_pass_b, DistanceB};
 use separate::extremes::Extremes;
 use separate::generators::{
-    cases, four_at_the_beginning, grain_cases, henderson_halves, place_by_bounds, small_random, smaller_random, stairs,
-    uneven_edges, wandering, Case,
+    cases, four_at_the_beginning, grain_cases, henderson_halves, moving_for_decades, moving_seasonal, place_by_bounds,
+    place_by_questions, small_random, smaller_random, stairs, uneven_edges, wandering, Case,
 };
 use separate::pass::{pass, Steps};
 use separate::print::printed;
-use separate::rows::{henderson_by_formula, henderson_rows, musgrave_exact, three_by_five, three_by_three, LENGTHS};
+use separate::rows::{
+    henderson_by_formula, henderson_rows, musgrave_exact, three_by_nine_exact, SeasonalFilter, ThreeByNine, LENGTHS,
+    SEASONAL_FILTERS,
+};
+use separate::seasonality::Question;
 use separate::spread::weights;
 
 const USAGE: &str = "separate tables START      figures: t figure D10 D11 D12 D13 B17 C17
-separate steps START       figures: every table of the three passes, as `pass table t value`, and the sums and
-                           length of the final trend, as `D sums I C` and `D length TERMS`
+separate steps START       figures: every table of the three passes, as `pass table t value`; the questions about
+                           the seasonal filter of pass D and the filter, as `D question NUMBER MONTHS I S ANSWER`
+                           and `D filter NAME`; the sums and length of the final trend, as `D sums I C` and
+                           `D length TERMS`
 separate steps             grains: every table of one pass, as `table t value`
 separate pass              grains: t X T2 S2
 separate weights START     irregular in grains: t weight
@@ -45,6 +51,7 @@ separate case NAME         one of them, figures only
 separate graincases        all made-up series of grains, one a line: name grains
 separate hunt FROM TO      Henderson sums on a half in the series of these seeds: name pass table t sum
 separate bounds FROM TO    series of these seeds near the bounds of the trend's length: name what I C
+separate questions FROM TO series of these seeds that try the choice of the seasonal filter: name what
 ";
 
 fn main() -> ExitCode {
@@ -113,6 +120,7 @@ fn text(words: &[&str]) -> Result<String, String> {
         }
         ["hunt", from, to] => hunt(seed(from)?, seed(to)?),
         ["bounds", from, to] => bounds(seed(from)?, seed(to)?),
+        ["questions", from, to] => questions(seed(from)?, seed(to)?),
         _ => return Err(USAGE.to_string()),
     };
     Ok(text)
@@ -201,6 +209,18 @@ fn extremes_lines(name: &str, extremes: &Extremes) -> String {
     text
 }
 
+/// The questions about the seasonal filter of pass D, and the filter chosen.
+fn seasonal_choice_lines(tables: &Tables) -> String {
+    let mut text = String::new();
+    for (index, question) in tables.questions.iter().enumerate() {
+        let answer = question.answer().map_or("undecided".to_string(), |filter| filter.to_string());
+        let Question { months, i, s } = question;
+        text.push_str(&format!("D question {} {months} {i} {s} {answer}\n", index + 1));
+    }
+    text.push_str(&format!("D filter {}\n", tables.seasonal_filter));
+    text
+}
+
 fn all_steps(figures: &[i32], start: u8) -> Result<String, Refusal> {
     let tables = decompose_fitting(figures, start)?;
     let mut text = String::new();
@@ -215,6 +235,7 @@ fn all_steps(figures: &[i32], start: u8) -> Result<String, Refusal> {
     text.push_str(&table_lines("C ", "C17", 0, &tables.c17));
     text.push_str(&table_lines("C ", "C20", 0, &tables.c20));
     text.push_str(&steps_lines("D ", &tables.d));
+    text.push_str(&seasonal_choice_lines(&tables));
     text.push_str(&format!("D sums {} {}\n", tables.noise.i, tables.noise.c));
     text.push_str(&format!("D length {}\n", tables.trend_terms));
     text.push_str(&table_lines("D ", "D10", 0, &tables.d10));
@@ -253,7 +274,7 @@ fn print_weights(irregular: &[i64], start: u8) -> Result<String, Refusal> {
 
 fn print_exact(figures: &[i32], start: u8) -> Result<String, Refusal> {
     let tables = decompose_fitting(figures, start)?;
-    let exact = exact_working(&tables.b1, &tables.d1, tables.trend_terms);
+    let exact = exact_working(&tables.b1, &tables.d1, tables.seasonal_filter, tables.trend_terms);
     let mut text = String::new();
     for t in 0..figures.len() {
         text.push_str(&format!("{} {} {} {} {}\n", t, exact.e10[t], exact.e11[t], exact.e12[t], exact.e13[t]));
@@ -263,7 +284,7 @@ fn print_exact(figures: &[i32], start: u8) -> Result<String, Refusal> {
 
 fn print_distances(figures: &[i32], start: u8) -> Result<String, Refusal> {
     let tables = decompose_fitting(figures, start)?;
-    let exact = exact_working(&tables.b1, &tables.d1, tables.trend_terms);
+    let exact = exact_working(&tables.b1, &tables.d1, tables.seasonal_filter, tables.trend_terms);
     let four = FourDistances::measure(&tables.d10, &tables.d11, &tables.d12, &tables.d13, &exact);
     let mut text = String::new();
     for (name, d, limit) in four.with_limits() {
@@ -319,13 +340,22 @@ fn move_back(new: &[u8]) -> Result<Vec<u8>, String> {
     Ok(old)
 }
 
+fn seasonal_row_lines(filter: SeasonalFilter) -> String {
+    let mut text = String::new();
+    for (before, after) in filter.counts() {
+        let (front, row) = (format!("{filter} {before} before {after} after"), filter.row(before, after));
+        text.push_str(&format!("{front}: {} over {}\n", joined(&row.weights), row.divisor));
+        if filter == ThreeByNine {
+            text.push_str(&format!("{front} exact: {}\n", joined(&three_by_nine_exact(before, after))));
+        }
+    }
+    text
+}
+
 fn print_rows() -> String {
     let mut text = String::new();
-    for (before, after) in [(2, 2), (2, 1), (2, 0), (1, 2), (0, 2)] {
-        text.push_str(&format!("3x3 {before} before {after} after: {} over 27\n", joined(&three_by_three(before, after))));
-    }
-    for (before, after) in [(3, 3), (3, 2), (3, 1), (3, 0), (2, 3), (1, 3), (0, 3)] {
-        text.push_str(&format!("3x5 {before} before {after} after: {} over 60\n", joined(&three_by_five(before, after))));
+    for filter in SEASONAL_FILTERS {
+        text.push_str(&seasonal_row_lines(filter));
     }
     for terms in LENGTHS {
         let rows = henderson_rows(terms);
@@ -350,6 +380,19 @@ fn hunt(from: u64, to: u64) -> String {
         for (name, tables) in worked(vec![small_random(seed), smaller_random(seed), wandering(seed)]) {
             for (table, t, sum) in henderson_halves(&tables) {
                 text.push_str(&format!("{name} {table} {t} {sum}\n"));
+            }
+        }
+    }
+    text
+}
+
+fn questions(from: u64, to: u64) -> String {
+    let mut text = String::new();
+    for seed in from..to {
+        let made = [moving_seasonal, moving_for_decades, wandering, stairs, uneven_edges, four_at_the_beginning];
+        for (name, tables) in worked(made.iter().map(|made| made(seed)).collect()) {
+            for what in place_by_questions(&tables) {
+                text.push_str(&format!("{name} {what}\n"));
             }
         }
     }

@@ -5,7 +5,7 @@ use crate::calendar::{labels, run, Label};
 use crate::decompose::Refusal;
 use crate::extremes::Extremes;
 use crate::rounding::{is_half, nearest_even};
-use crate::rows::{henderson_at, three_by_five, three_by_three, T2_TERMS};
+use crate::rows::{henderson_at, SeasonalFilter, ThreeByFive, ThreeByThree, T2_TERMS};
 
 /// A table of grains that begins at some month of the series.
 #[derive(Clone, Debug, PartialEq, Eq)]
@@ -85,35 +85,25 @@ pub fn ends_repeated(table: &Placed, first: usize, last: usize) -> Placed {
 }
 
 /// A seasonal filter over every month's run of a table.
-fn over_runs(table: &Placed, row: fn(usize, usize) -> Vec<i128>, reach: usize, divisor: i128) -> Fractions {
+pub fn over_runs(table: &Placed, filter: SeasonalFilter) -> Fractions {
     // The runs do not depend on which month the series begins with, so any
     // labelling will do.
     let labels = labels(1, table.last() + 1);
-    let mut values = vec![(0, divisor); table.values.len()];
+    let mut values = vec![(0, 1); table.values.len()];
     for month in 1..=12 {
         let places = run(&labels, month, table.first, table.last());
         for (index, &t) in places.iter().enumerate() {
-            let before = index.min(reach);
-            let after = (places.len() - 1 - index).min(reach);
-            let weights = row(before, after);
+            let before = index.min(filter.reach());
+            let after = (places.len() - 1 - index).min(filter.reach());
+            let row = filter.row(before, after);
             let mut sum = 0i128;
-            for (weight, &place) in weights.iter().zip(&places[index - before..=index + after]) {
+            for (weight, &place) in row.weights.iter().zip(&places[index - before..=index + after]) {
                 sum += weight * i128::from(table.at(place));
             }
-            values[t - table.first] = (sum, divisor);
+            values[t - table.first] = (sum, row.divisor);
         }
     }
     Fractions { first: table.first, values }
-}
-
-/// 3×3 of every month's run.
-pub fn seasonal_3x3(table: &Placed) -> Fractions {
-    over_runs(table, three_by_three, 2, 27)
-}
-
-/// 3×5 of every month's run.
-pub fn seasonal_3x5(table: &Placed) -> Fractions {
-    over_runs(table, three_by_five, 3, 60)
 }
 
 /// Henderson of so many terms with its end rows, over all months of a series.
@@ -184,9 +174,6 @@ fn first_trend(x: &Placed) -> FirstTrend {
     FirstTrend { t1, si1, halves: exact.halves() }
 }
 
-/// A seasonal filter over runs.
-pub type RunFilter = fn(&Placed) -> Fractions;
-
 /// A seasonal over the months of the table that it is worked from: the
 /// filter of the runs, its 2×12 with the ends repeated, and the difference
 /// (steps 3 and 4 without the copying, steps 6 and 7).
@@ -199,8 +186,8 @@ pub struct Seasonal {
     pub halves: [usize; 2],
 }
 
-pub fn seasonal(si: &Placed, filter: RunFilter) -> Seasonal {
-    let r_exact = filter(si);
+pub fn seasonal(si: &Placed, filter: SeasonalFilter) -> Seasonal {
+    let r_exact = over_runs(si, filter);
     let r = r_exact.rounded();
     let m_exact = two_by_twelve(&r);
     let m = ends_repeated(&m_exact.rounded(), si.first, si.last());
@@ -267,14 +254,19 @@ fn series_of_a_pass(series: &[i64]) -> Placed {
     Placed::whole_series(series.to_vec())
 }
 
-/// One pass over a series of at least 72 grains, as passes C and D are: no
-/// value of SI1 or SI2 is replaced.
+/// One pass over a series of at least 72 grains, as pass C is: no value of
+/// SI1 or SI2 is replaced, and step 6 has 3×5.
 pub fn pass(series: &[i64]) -> Steps {
+    pass_with(series, ThreeByFive)
+}
+
+/// The same with another filter in step 6, as pass D is.
+pub fn pass_with(series: &[i64], filter: SeasonalFilter) -> Steps {
     let x = series_of_a_pass(series);
     let one = first_trend(&x);
-    let early = seasonal(&one.si1, seasonal_3x3);
+    let early = seasonal(&one.si1, ThreeByThree);
     let two = second_trend(&x, &early.s);
-    let late = seasonal(&two.si2, seasonal_3x5);
+    let late = seasonal(&two.si2, filter);
     gathered(x, one, early, two, late)
 }
 
@@ -293,11 +285,11 @@ pub struct PassB {
 pub fn pass_b(series: &[i64], labels: &[Label]) -> Result<PassB, Refusal> {
     let x = series_of_a_pass(series);
     let one = first_trend(&x);
-    let b4 = Extremes::of(&one.si1, seasonal_3x3, labels)?;
-    let early = seasonal(&b4.replaced, seasonal_3x3);
+    let b4 = Extremes::of(&one.si1, ThreeByThree, labels)?;
+    let early = seasonal(&b4.replaced, ThreeByThree);
     let two = second_trend(&x, &early.s);
-    let b9 = Extremes::of(&two.si2, seasonal_3x5, labels)?;
-    let late = seasonal(&b9.replaced, seasonal_3x5);
+    let b9 = Extremes::of(&two.si2, ThreeByFive, labels)?;
+    let late = seasonal(&b9.replaced, ThreeByFive);
     Ok(PassB { steps: gathered(x, one, early, two, late), b4, b9 })
 }
 

@@ -1,8 +1,11 @@
-//! The weights of the filters.  The seasonal rows are written down as the
-//! paper gives them; the Henderson rows are worked out from the formulas.
+//! The weights of the filters.  The seasonal rows of 3×3 and 3×5 are written
+//! down as the paper gives them, those of 3×9 are worked out from its full
+//! row; the Henderson rows are worked out from the formulas.
 
 use crate::fraction::Fraction;
 use crate::whole::Whole;
+use std::collections::BTreeMap;
+use std::fmt;
 use std::sync::OnceLock;
 
 /// The 3×3 weights in 27ths, oldest first, where so many values of the run
@@ -32,6 +35,112 @@ pub fn three_by_five(before: usize, after: usize) -> Vec<i128> {
 fn mirrored(mut row: Vec<i128>) -> Vec<i128> {
     row.reverse();
     row
+}
+
+/// The full 3×9 row in 27ths.
+pub const FULL_THREE_BY_NINE: [i128; 11] = [1, 2, 3, 3, 3, 3, 3, 3, 3, 2, 1];
+
+/// The exact 3×9 weights, oldest first: those of missing places, on either
+/// side, are shared equally among the places present.
+pub fn three_by_nine_exact(before: usize, after: usize) -> Vec<Fraction> {
+    let (before, after) = (before.min(5), after.min(5));
+    assert!(before + after >= 5, "the run is too short for a 3×9 row");
+    let full = FULL_THREE_BY_NINE.map(|weight| Fraction::new(weight, 27));
+    let present = 5 - before..=5 + after;
+    let mut missing = Fraction::whole(0);
+    for (place, weight) in full.iter().enumerate() {
+        if !present.contains(&place) {
+            missing = missing.plus(weight);
+        }
+    }
+    let share = missing.over(&Fraction::whole((before + after + 1) as i128));
+    full[present].iter().map(|weight| weight.plus(&share)).collect()
+}
+
+/// The 3×9 row over 27 times the places present, or over 27 where none is
+/// missing.
+fn worked_three_by_nine(before: usize, after: usize) -> SeasonalRow {
+    let exact = three_by_nine_exact(before, after);
+    let many = exact.len() as i128;
+    let divisor = if exact.len() == FULL_THREE_BY_NINE.len() { 27 } else { 27 * many };
+    SeasonalRow { weights: whole_over(&exact, divisor), divisor }
+}
+
+/// The same, each row worked out once.
+pub fn three_by_nine(before: usize, after: usize) -> SeasonalRow {
+    static ROWS: OnceLock<BTreeMap<(usize, usize), SeasonalRow>> = OnceLock::new();
+    let worked = |(before, after)| ((before, after), worked_three_by_nine(before, after));
+    let all = ROWS.get_or_init(|| ThreeByNine.counts().into_iter().map(worked).collect());
+    all.get(&(before.min(5), after.min(5))).expect("a run of six values or more").clone()
+}
+
+/// A row of a seasonal filter, oldest weight first.
+#[derive(Clone, Debug, PartialEq, Eq)]
+pub struct SeasonalRow {
+    pub weights: Vec<i128>,
+    pub divisor: i128,
+}
+
+/// The seasonal filters over a month's run.
+#[derive(Clone, Copy, Debug, PartialEq, Eq, PartialOrd, Ord)]
+pub enum SeasonalFilter {
+    ThreeByThree,
+    ThreeByFive,
+    ThreeByNine,
+}
+
+pub use SeasonalFilter::{ThreeByFive, ThreeByNine, ThreeByThree};
+
+pub const SEASONAL_FILTERS: [SeasonalFilter; 3] = [ThreeByThree, ThreeByFive, ThreeByNine];
+
+impl SeasonalFilter {
+    /// How many values it takes on each side.
+    pub fn reach(self) -> usize {
+        match self {
+            ThreeByThree => 2,
+            ThreeByFive => 3,
+            ThreeByNine => 5,
+        }
+    }
+
+    /// The row where so many values of the run stand before and after.
+    pub fn row(self, before: usize, after: usize) -> SeasonalRow {
+        match self {
+            ThreeByThree => SeasonalRow { weights: three_by_three(before, after), divisor: 27 },
+            ThreeByFive => SeasonalRow { weights: three_by_five(before, after), divisor: 60 },
+            ThreeByNine => three_by_nine(before, after),
+        }
+    }
+
+    /// The pairs of counts, before and after, that its rows are for: first
+    /// the full row, then those with fewer after, then those with fewer before
+    /// and with fewer on both sides.
+    pub fn counts(self) -> Vec<(usize, usize)> {
+        let reach = self.reach();
+        // 3×3 and 3×5 are never short on both sides; a run of 3×9 has 6
+        // values or more.
+        let fewest = if self == ThreeByNine { 5 } else { reach };
+        let mut list = Vec::new();
+        for before in (0..=reach).rev() {
+            for after in (0..=reach).rev() {
+                let one_side = before == reach || after == reach;
+                if before + after >= fewest && (one_side || self == ThreeByNine) {
+                    list.push((before, after));
+                }
+            }
+        }
+        list
+    }
+}
+
+impl fmt::Display for SeasonalFilter {
+    fn fmt(&self, out: &mut fmt::Formatter<'_>) -> fmt::Result {
+        out.write_str(match self {
+            ThreeByThree => "3x3",
+            ThreeByFive => "3x5",
+            ThreeByNine => "3x9",
+        })
+    }
 }
 
 /// The lengths of the Henderson filter that the final trend can have.
@@ -246,6 +355,20 @@ mod tests {
     }
 
     #[test]
+    fn rows_for_every_pair_of_counts() {
+        assert_eq!(ThreeByThree.counts(), [(2, 2), (2, 1), (2, 0), (1, 2), (0, 2)]);
+        assert_eq!(ThreeByFive.counts(), [(3, 3), (3, 2), (3, 1), (3, 0), (2, 3), (1, 3), (0, 3)]);
+        assert_eq!(ThreeByNine.counts().len(), 21);
+        for filter in SEASONAL_FILTERS {
+            for (before, after) in filter.counts() {
+                let row = filter.row(before, after);
+                assert_eq!(row.weights.len(), before + after + 1, "{filter} {before} {after}");
+                assert_eq!(row.weights.iter().sum::<i128>(), row.divisor, "{filter} {before} {after}");
+            }
+        }
+    }
+
+    #[test]
     fn symmetric_seasonal_rows_are_means_of_means() {
         let convolve = |a: &[i128], b: &[i128]| {
             let mut out = vec![0; a.len() + b.len() - 1];
@@ -260,6 +383,7 @@ mod tests {
         assert_eq!(three_by_three(2, 2), three_three);
         let three_five: Vec<i128> = convolve(&[1; 3], &[1; 5]).iter().map(|w| w * 4).collect();
         assert_eq!(three_by_five(3, 3), three_five);
+        assert_eq!(three_by_nine(5, 5), SeasonalRow { weights: convolve(&[1; 3], &[1; 9]), divisor: 27 });
     }
 
     #[test]

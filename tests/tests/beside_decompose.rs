@@ -17,7 +17,7 @@ fn every_made_up_series() {
         let tables = tables.expect("an allowed series");
         // The distances of the tables that came out, from the exact fractions.
         if worked % 9 == 0 {
-            let exact = exact_working(&tables.b1, &tables.d1, tables.trend_terms);
+            let exact = exact_working(&tables.b1, &tables.d1, tables.seasonal_filter, tables.trend_terms);
             let four = FourDistances::measure(&tables.d10, &tables.d11, &tables.d12, &tables.d13, &exact);
             assert!(four.are_within_limits(), "{}", case.name);
         }

@@ -22,16 +22,25 @@
 //!
 //! And the rows of all lengths beside the book's.  Its final trend has 13
 //! terms, which our sums choose for its printed tables too, so that D12 is
-//! compared as before.
+//! compared as before.  Its final seasonal is 3×5, chosen by sums of other
+//! tables than ours; our own working of the series, in differences and with
+//! C13 and C10, chooses 3×9.  So D10bis is compared with 3×5 held, from the
+//! printed D9bis that the book filtered.
 
 use std::collections::BTreeMap;
 use separate::calendar::{by_year, labels, labels_of_part, run, Label};
+use separate::decompose::decompose_fitting;
 use separate::extremes::{replaced_run, RunValue};
 use separate::fraction::Fraction;
+use separate::generators::book_series;
 use separate::noise::Noise;
-use separate::pass::{ends_repeated, henderson, seasonal_3x3, seasonal_3x5, two_by_twelve, Fractions, Placed};
+use separate::pass::{ends_repeated, henderson, over_runs, two_by_twelve, Fractions, Placed};
 use separate::rounding::nearest_away;
-use separate::rows::{henderson_at, henderson_by_formula, musgrave_exact, musgrave_millionths, three_by_five, three_by_three};
+use separate::rows::{
+    henderson_at, henderson_by_formula, musgrave_exact, musgrave_millionths, three_by_five, three_by_three, ThreeByFive,
+    ThreeByNine, ThreeByThree,
+};
+use separate::seasonality::Question;
 use separate::spread::{spreads_by_year, weights};
 use separate::whole::Whole;
 
@@ -165,7 +174,7 @@ fn two_by_twelve_of_the_series() {
 fn three_by_three_with_ends() {
     let tables = printed_tables();
     for (from, to, equal) in [("B3", "B4a", 89), ("B4g", "B5a", 93), ("C4", "C5a", 84), ("D4", "D5a", 90)] {
-        let exact = seasonal_3x3(&placed(&tables[from]));
+        let exact = over_runs(&placed(&tables[from]), ThreeByThree);
         check_pair(&format!("3x3 {from} to {to}"), &exact, &exact.rounded(), &placed(&tables[to]), equal, [0, 0]);
     }
 }
@@ -191,7 +200,7 @@ fn three_by_five_with_ends() {
         ("C9", "C10a", 103, [0, 1]),
         ("D9bis", "D10bis", 103, [1, 0]),
     ] {
-        let exact = seasonal_3x5(&placed(&tables[from]));
+        let exact = over_runs(&placed(&tables[from]), ThreeByFive);
         check_pair(&format!("3x5 {from} to {to}"), &exact, &exact.rounded(), &placed(&tables[to]), equal, met);
     }
 }
@@ -664,6 +673,44 @@ fn the_length_chosen_beside_the_book() {
         assert!((ours - ratio).abs() < 0.1, "{trend}");
         assert_eq!(noise.terms(), terms, "{trend}");
     }
+}
+
+/// The book's sums of twelve-month changes in percents, I and S: a seven-term
+/// mean of each month's run of D9bis is the seasonal, the first and last three
+/// values lending their mean for the places missing, and the quotient is the
+/// irregular.  The sums of a run are corrected by factors for its length
+/// (table 4.112).  It counts to December 1994, the last full year.
+fn book_sums() -> (f64, f64) {
+    let si = placed(&printed_tables()["D9bis"]);
+    let (mut i, mut s) = (0.0, 0.0);
+    let changes = |list: &[f64]| list.windows(2).map(|pair| (100.0 * pair[1] / pair[0] - 100.0).abs()).sum::<f64>();
+    for month in 1..=12 {
+        let run: Vec<f64> = run(&labels(10, N), month, 0, N - 4).iter().map(|&t| si.at(t) as f64 / 1000.0).collect();
+        let mean = |list: &[f64]| list.iter().sum::<f64>() / list.len() as f64;
+        let filled = [&[mean(&run[..3]); 3][..], &run, &[mean(&run[run.len() - 3..]); 3]].concat();
+        let seasonal: Vec<f64> = filled.windows(7).map(mean).collect();
+        let irregular: Vec<f64> = run.iter().zip(&seasonal).map(|(value, mean)| 100.0 * value / mean).collect();
+        let years = run.len() as f64 - 1.0;
+        let (six, five) = (6.0 * 149f64.sqrt(), 5.0 * 6f64.sqrt());
+        i += changes(&irregular) * five * years / (six + five * (years - 6.0));
+        s += changes(&seasonal) * 3f64.sqrt() * years / (6.0 * 2f64.sqrt() + 3f64.sqrt() * (years - 6.0));
+    }
+    (i, s)
+}
+
+/// The book prints 79.709 and 17.302 (from means of three decimals), and takes
+/// 3×5, as our bands do for its sums.
+#[test]
+fn the_filter_chosen_beside_the_book() {
+    let (i, s) = book_sums();
+    println!("I {i:.3} S {s:.3} ratio {:.3}", i / s);
+    assert!((i - 79.709).abs() < 0.01 && (s - 17.302).abs() < 0.01 && (i / s - 4.607).abs() < 0.001);
+    let thousandths = |sum: f64| (1000.0 * sum).round() as u64;
+    let question = Question { months: N - 3, i: thousandths(i), s: thousandths(s) };
+    assert_eq!(question.answer(), Some(ThreeByFive));
+    // Our sums are of other tables: 3×9 at once.
+    let ours = decompose_fitting(&book_series(), 10).unwrap();
+    assert_eq!((ours.questions.len(), ours.seasonal_filter), (1, ThreeByNine));
 }
 
 #[test]

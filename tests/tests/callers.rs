@@ -13,7 +13,7 @@ use std::path::{Path, PathBuf};
 use std::process::{Command, Output, Stdio};
 use std::sync::LazyLock;
 
-const VERSION: [usize; 3] = [0, 14, 0];
+const VERSION: [usize; 3] = [0, 15, 0];
 
 /// The words of the refusal sheet by number, and those for every other number.
 const TEXTS: [&str; 12] = [

@@ -1,14 +1,17 @@
 //! What the documents show, beside the separately written program and the repository: README's sample, METHOD's rows and those that are stored, the
-//! runs of its part 3.9, its flooded January, its lengths of the final trend and its month order, the wrong programs that CONTRACTS names.
+//! runs of its part 3.9, its flooded January, its lengths of the final trend, its seasonal filters and its month order, the wrong programs that
+//! CONTRACTS names.
 
 use separate::columns::{by_month, last_year};
 use separate::decompose::decompose_fitting;
 use separate::desk::bytes_of;
 use separate::extremes::{neighbours, RunValue};
 use separate::generators::book_series;
+use separate::noise::Noise;
 use separate::pass::pass;
 use separate::print::printed;
-use separate::rows::{henderson_at, henderson_rows, three_by_five, three_by_three, HendersonRows, LENGTHS};
+use separate::rows::{henderson_at, henderson_rows, three_by_five, three_by_nine, three_by_three, HendersonRows, ThreeByFive, ThreeByNine, LENGTHS};
+use separate::seasonality::{chosen, questions};
 use std::fs;
 use std::path::{Path, PathBuf};
 
@@ -59,6 +62,16 @@ fn method_has_every_row() {
     assert_eq!(middle, worked.iter().map(|rows| rows.middle.clone()).collect::<Vec<_>>());
     let ends = worked.iter().flat_map(|rows| rows.ends.iter().enumerate().rev().map(|(f, row)| [vec![f as i128], row.clone()].concat()));
     assert_eq!(rows(&part("2.6", "2.7")), ends.collect::<Vec<_>>());
+    // Of 3×9 METHOD has the rows with as many values before as after, or more, each over 27 times its values.
+    let nine = ThreeByNine.counts().into_iter().filter(|(before, after)| before >= after).map(|(before, after)| {
+        let (row, p) = (three_by_nine(before, after), (before + 1 + after) as i128);
+        let weights = row.weights.iter().map(|weight| weight * 27 * p / row.divisor).collect();
+        [vec![before as i128, after as i128, p, 27 * p], weights].concat()
+    });
+    let shown = between(&method, "**2.8 ", "\n## 3");
+    assert_eq!(rows(shown), nine.collect::<Vec<_>>());
+    let full = shown.lines().find(|line| line.starts_with("    ")).map(numbers);
+    assert_eq!(full, Some(three_by_nine(5, 5).weights));
 }
 
 /// Henderson's rows as the code stores them: those for the start, the middle row, those for the end, each filled up with zeros.
@@ -74,6 +87,25 @@ fn stored_rows_are_those_of_the_formulas() {
         assert_eq!(stored, worked, "{terms}");
         let constant = |name: &str| numbers(between(&source, &format!("pub const {name}_HENDERSON_{terms}: usize = "), ";"));
         assert_eq!([constant("SIDE"), constant("MIDDLE")], [vec![terms as i128 / 2], vec![henderson_rows(terms).divisor]]);
+    }
+}
+
+/// The rows of 3×9 as the code stores them: six each for none to five values before, of which each is for one value after fewer.
+#[test]
+fn stored_rows_of_3x9_are_shared() {
+    let source = document("crates/rows/src/three_by_nine.rt");
+    let stored: Vec<i128> = between(&source, "= [", "];").lines().filter(|line| !line.contains("//")).flat_map(numbers).collect();
+    let constant = |name: &str| numbers(between(&source, &format!("pub const {name}_3X9: usize = "), ";"))[0];
+    let (side, middle, ends) = (constant("SIDE") as usize, constant("MIDDLE"), constant("ENDS"));
+    assert_eq!((side, constant("ROW_STEP"), stored.len()), (5, 6, 36 * 11));
+    for (before, after) in ThreeByNine.counts() {
+        let row = three_by_nine(before, after);
+        let over = if (before, after) == (side, side) { middle } else { ends };
+        let at = (before * 6 + side - after) * 11;
+        let (shown, rest) = stored[at..at + 11].split_at(row.weights.len());
+        let worked: Vec<i128> = row.weights.iter().map(|weight| weight * over).collect();
+        assert_eq!(shown.iter().map(|weight| weight * row.divisor).collect::<Vec<_>>(), worked, "{before} {after}");
+        assert!(rest.iter().all(|&weight| weight == 0), "{before} {after}");
     }
 }
 
@@ -102,7 +134,7 @@ fn method_has_the_neighbours_of_its_runs() {
 fn method_has_the_flooded_january() {
     let method = document("docs/METHOD.md");
     let part = between(&method, "**4.4 ", "## 5");
-    let figures: Vec<i32> = (0..72).map(|t| if t == 18 { 500 } else { 1000 + t * t % 17 }).collect();
+    let figures: Vec<i32> = (0..72).map(flooded).collect();
     let tables = decompose_fitting(&figures, 7).expect("tables");
     let months: Vec<usize> = cells(part, "t").iter().map(|t| t.parse().expect("a month")).collect();
     assert_eq!(months, [6, 18, 30, 42, 54, 66]);
@@ -116,7 +148,25 @@ fn method_has_the_flooded_january() {
     assert_eq!(shown("B10"), of_six(&|t| tables.b10[t]));
     let plain = pass(&tables.b1).s2.values;
     assert_eq!(shown("S2, were no value replaced"), of_six(&|t| plain[t]));
+    assert_eq!((tables.seasonal_filter, tables.trend_terms), (ThreeByNine, 23));
+    assert_eq!(shown("D10, by 3×9"), of_six(&|t| tables.d10[t]));
     assert_eq!(shown("D12, of 23 terms"), of_six(&|t| tables.d12[t]));
+}
+
+fn flooded(t: i32) -> i32 {
+    if t == 18 { 500 } else { 1000 + t * t % 17 }
+}
+
+fn rippled(t: i32) -> i32 {
+    1000 + 12 * t + (2 * t * t + 13 * t) % 49
+}
+
+fn just_above(t: i32) -> i32 {
+    1000 + 10 * t + 37 * t % 45
+}
+
+fn straight(t: i32) -> i32 {
+    1000 + t
 }
 
 #[test]
@@ -124,15 +174,49 @@ fn method_has_lengths_of_the_final_trend() {
     let method = document("docs/METHOD.md");
     let table = between(&method, "Three series of 72 figures:\n\n", "\n\n");
     let rows: Vec<Vec<i128>> = table.lines().skip(2).map(|line| line.trim_matches('|').split('|').skip(1).flat_map(numbers).collect()).collect();
-    let flooded = |t: i32| if t == 18 { 500 } else { 1000 + t * t % 17 };
-    let uneven = |t: i32| if t == 50 { 1305 } else { 1000 + 8 * t + (6 * t * t + 7 * t) % 11 };
-    let straight = |t: i32| 1000 + t;
-    let series: [(&dyn Fn(i32) -> i32, u8); 3] = [(&flooded, 7), (&uneven, 7), (&straight, 1)];
+    let series: [(fn(i32) -> i32, u8); 3] = [(flooded, 7), (just_above, 7), (rippled, 7)];
     let worked = series.map(|(figure, start)| {
         let tables = decompose_fitting(&(0..72).map(figure).collect::<Vec<i32>>(), start).expect("tables");
         vec![i128::from(start), tables.noise.i.into(), tables.noise.c.into(), tables.trend_terms as i128]
     });
     assert_eq!(rows, worked);
+}
+
+#[test]
+fn method_has_seasonal_filters() {
+    let method = document("docs/METHOD.md");
+    let table = between(&method, "each question with the months that are kept:\n\n", "\n\n");
+    let rows: Vec<String> = table.lines().skip(2).map(|line| line.trim_matches('|').split('|').skip(1).map(str::trim).collect::<Vec<_>>().join(" ")).collect();
+    let by_eleven = |t| 1000 + t % 11;
+    let series: [(fn(i32) -> i32, u8, i32); 5] =
+        [(flooded, 7, 72), (rippled, 7, 72), (just_above, 7, 72), (straight, 1, 72), (by_eleven, 1, 84)];
+    let mut worked = Vec::new();
+    for (figure, start, months) in series {
+        let tables = decompose_fitting(&(0..months).map(figure).collect::<Vec<i32>>(), start).expect("tables");
+        for (asked, question) in tables.questions.iter().enumerate() {
+            let month = if asked == 0 { start.to_string() } else { String::new() };
+            let answer = question.answer().map_or("none".to_string(), |filter| filter.to_string().replace('x', "×"));
+            worked.push(format!("{month} {} {} {} {answer}", question.months, question.i, question.s));
+        }
+    }
+    assert_eq!(rows, worked);
+}
+
+/// What METHOD says of the second series of 4.6: what its Januaries get, and what the tables of passes B and D would choose.
+#[test]
+fn method_has_a_series_chosen_by_pass_c() {
+    let tables = decompose_fitting(&(0..72).map(rippled).collect::<Vec<i32>>(), 7).expect("tables");
+    let method = document("docs/METHOD.md");
+    let shown = |mark: &str, end: &str| numbers(between(between(&method, "t = 6, 18, .., 66, get ", "\n"), mark, end));
+    let januaries = |table: &[i64]| (0..6).map(|year| i128::from(table[6 + 12 * year])).collect::<Vec<i128>>();
+    assert_eq!(shown("", " in D10"), januaries(&tables.d10));
+    assert_eq!(shown("in D10 and ", " in D12"), januaries(&tables.d12));
+    let by = |irregular: &[i64], trend: &[i64], seasonal: &[i64]| (Noise::of(irregular, trend).terms(), chosen(&questions(irregular, seasonal)));
+    let (d7, d10) = (&tables.d.t2.values, &tables.d10);
+    let d13: Vec<i64> = (0..72).map(|t| tables.b1[t] - d10[t] - d7[t]).collect();
+    assert_eq!(by(&tables.b13, &tables.b7, &tables.b10), (13, ThreeByFive));
+    assert_eq!(by(&tables.c13, &tables.c7, &tables.c10), (9, ThreeByNine));
+    assert_eq!(by(&d13, d7, d10), (13, ThreeByNine));
 }
 
 #[test]

@@ -5,8 +5,10 @@ use separate::calendar::labels;
 use separate::decompose::{decompose_fitting, Tables};
 use separate::extremes::{neighbours, replaced_run, replacement, Extremes, RunValue};
 use separate::generators::{cases, extremes_from_every_start, flooded_januaries, months_far_off, smooth, Case, FLOOD, PLAIN_SEASONAL};
-use separate::pass::{ends_repeated, henderson, pass, seasonal_3x3, seasonal_3x5, two_by_twelve, Placed, RunFilter};
+use separate::pass::{ends_repeated, henderson, over_runs, pass, pass_with, two_by_twelve, Placed};
 use separate::rounding::nearest_even;
+use separate::rows::{SeasonalFilter, ThreeByFive, ThreeByNine, ThreeByThree};
+use separate::seasonality::{chosen, questions};
 use separate::spread::{correction, two_spreads, units, weight, weights};
 use std::collections::BTreeSet;
 
@@ -210,9 +212,9 @@ fn is_rounded_to(grain: i64, upper: i128, lower: i128) -> bool {
     twice_off < lower || (twice_off == lower && grain % 2 == 0)
 }
 
-fn check_extremes(name: &str, si: &Placed, filter: RunFilter, start: u8, ours: &Extremes, found: &mut Found) {
+fn check_extremes(name: &str, si: &Placed, filter: SeasonalFilter, start: u8, ours: &Extremes, found: &mut Found) {
     let (first, last) = (si.first, si.last());
-    let r = filter(si).rounded();
+    let r = over_runs(si, filter).rounded();
     let m = ends_repeated(&two_by_twelve(&r).rounded(), first, last);
     let irregular = si.less(&r.less(&m));
     assert_eq!(ours.irregular, irregular, "{name}");
@@ -244,7 +246,7 @@ fn check_passes(name: &str, tables: &Tables) {
     let less = |a: &[i64], b: &[i64]| -> Vec<i64> { a.iter().zip(b).map(|(x, y)| x - y).collect() };
     let b = &tables.b;
     assert_eq!(b.si1, pass(&tables.b1).si1, "{name}");
-    assert_eq!(b.r1, seasonal_3x3(&tables.b4.replaced).rounded(), "{name}");
+    assert_eq!(b.r1, over_runs(&tables.b4.replaced, ThreeByThree).rounded(), "{name}");
     assert_eq!(b.m1, ends_repeated(&two_by_twelve(&b.r1).rounded(), 6, n - 7), "{name}");
     for t in 0..n {
         let source = match t {
@@ -256,12 +258,12 @@ fn check_passes(name: &str, tables: &Tables) {
     }
     assert_eq!(b.t2, henderson(&less(&tables.b1, &b.s1.values), 13).rounded(), "{name}");
     assert_eq!(b.si2.values, less(&tables.b1, &b.t2.values), "{name}");
-    assert_eq!(b.r2, seasonal_3x5(&tables.b9.replaced).rounded(), "{name}");
+    assert_eq!(b.r2, over_runs(&tables.b9.replaced, ThreeByFive).rounded(), "{name}");
     assert_eq!(b.s2, b.r2.less(&ends_repeated(&two_by_twelve(&b.r2).rounded(), 0, n - 1)), "{name}");
     assert_eq!((&tables.b7, &tables.b10), (&b.t2.values, &b.s2.values), "{name}");
     assert_eq!(tables.b13, less(&less(&tables.b1, &tables.b10), &tables.b7), "{name}");
     assert_eq!(tables.c, pass(&tables.c1), "{name}");
-    assert_eq!(tables.d, pass(&tables.d1), "{name}");
+    assert_eq!(tables.d, pass_with(&tables.d1, tables.seasonal_filter), "{name}");
     for t in 0..n {
         assert_eq!(tables.c1[t], tables.b1[t] - correction(tables.b13[t], tables.b17[t]), "{name} month {t}");
         assert_eq!(tables.d1[t], tables.b1[t] - correction(tables.c13[t], tables.c17[t]), "{name} month {t}");
@@ -270,8 +272,8 @@ fn check_passes(name: &str, tables: &Tables) {
 
 fn check(case: &Case, found: &mut Found) -> Tables {
     let tables = decompose_fitting(&case.figures, case.start).expect("an allowed series");
-    check_extremes(&format!("{} B4", case.name), &tables.b.si1, seasonal_3x3, case.start, &tables.b4, found);
-    check_extremes(&format!("{} B9", case.name), &tables.b.si2, seasonal_3x5, case.start, &tables.b9, found);
+    check_extremes(&format!("{} B4", case.name), &tables.b.si1, ThreeByThree, case.start, &tables.b4, found);
+    check_extremes(&format!("{} B9", case.name), &tables.b.si2, ThreeByFive, case.start, &tables.b9, found);
     check_passes(&case.name, &tables);
     tables
 }
@@ -360,34 +362,41 @@ fn weights_of_zero_at_both_ends_of_a_run() {
     assert!(ends[0] > 1 && ends[1] > 1);
 }
 
-/// D10 as it was without the replacing: three plain passes.
-fn seasonal_without_replacing(figures: &[i32], start: u8) -> Vec<i64> {
+/// D1 without the replacing, and the seasonal filter of pass D: two plain passes.
+fn corrected_without_replacing(figures: &[i32], start: u8) -> (Vec<i64>, SeasonalFilter) {
     let labels = labels(start, figures.len());
     let b1: Vec<i64> = figures.iter().map(|&figure| 1000 * i64::from(figure)).collect();
     let mut x = b1.clone();
+    let mut filter = ThreeByFive;
     for _ in 0..2 {
         let steps = pass(&x);
         let irregular: Vec<i64> = (0..b1.len()).map(|t| b1[t] - steps.s2.at(t) - steps.t2.at(t)).collect();
         let weights = weights(&irregular, &labels).unwrap();
         x = (0..b1.len()).map(|t| b1[t] - correction(irregular[t], weights[t])).collect();
+        filter = chosen(&questions(&irregular, &steps.s2.values));
     }
-    pass(&x).s2.values
+    (x, filter)
 }
 
 /// A flooded January no longer colours the Januaries around it: twelve years from January, the seventh January 50,000 units below a smooth
-/// series with a plain seasonal, in which January has -6,000 units.
+/// series with a plain seasonal, in which January has -6,000 units. So it is with 3×5 held, and with the 3×9 that both workings choose: it
+/// gives a January 3/27 of those within three years, 3×5 gives it 12/60 of those within one.
 #[test]
 fn a_flooded_january() {
     let (n, start, flood) = (144, 1, 72);
     let mut figures: Vec<i32> = smooth(start, n).iter().map(|&figure| figure as i32).collect();
     figures[flood] -= FLOOD as i32;
     let tables = decompose_fitting(&figures, start).unwrap();
-    let before = seasonal_without_replacing(&figures, start);
+    let (d1_before, filter_before) = corrected_without_replacing(&figures, start);
+    assert_eq!((tables.seasonal_filter, filter_before), (ThreeByNine, ThreeByNine));
     let off = |seasonal: i64| (seasonal - 1000 * PLAIN_SEASONAL[0]).abs();
-    for t in (48..=96).step_by(12) {
-        println!("January {t}: D10 {} with the replacing, {} without", tables.d10[t], before[t]);
-        assert!(off(tables.d10[t]) < 1_200_000, "January {t}");
-        assert!(off(before[t]) > 4_600_000, "January {t}");
+    for (filter, below, above) in [(ThreeByFive, 1_200_000, 4_600_000), (ThreeByNine, 800_000, 4_100_000)] {
+        let (with, without) = (pass_with(&tables.d1, filter).s2, pass_with(&d1_before, filter).s2);
+        for t in (48..=96).step_by(12) {
+            println!("January {t}: S2 by {filter} {} with the replacing, {} without", with.at(t), without.at(t));
+            assert!(off(with.at(t)) < below, "January {t}");
+            assert!(off(without.at(t)) > above, "January {t}");
+        }
     }
     // B4g has nothing of the flood left; SI1 had eleven twelfths of it.
     assert_eq!(off(tables.b.si1.at(flood)), FLOOD * 11_000 / 12);
@@ -406,7 +415,8 @@ fn one_flood_in_every_part_of_the_series() {
         let tables = decompose_fitting(&case.figures, case.start).unwrap();
         let off = |seasonal: i64| (seasonal - 1000 * PLAIN_SEASONAL[0]).abs();
         let with = off(tables.d10[flood]);
-        let without = off(seasonal_without_replacing(&case.figures, case.start)[flood]);
+        let (d1, filter) = corrected_without_replacing(&case.figures, case.start);
+        let without = off(pass_with(&d1, filter).s2.at(flood));
         assert!(with < without, "{}: {with} and {without}", case.name);
         if !tables.b9.neighbours[flood].is_empty() {
             replaced += 1;

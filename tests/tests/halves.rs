@@ -6,8 +6,10 @@ use separate::calendar::{labels, labels_of_part, run, Label};
 use separate::decompose::decompose_fitting;
 use separate::extremes::{replaced_run, RunValue};
 use separate::generators::{cases, ties, Case};
-use separate::pass::{ends_repeated, henderson, pass, seasonal_3x3, seasonal_3x5, two_by_twelve, Fractions, Placed, RunFilter};
 use separate::noise::Noise;
+use separate::pass::{ends_repeated, henderson, over_runs, pass, two_by_twelve, Fractions, Placed};
+use separate::rows::{SeasonalFilter, ThreeByFive, ThreeByThree};
+use separate::seasonality::{chosen, questions};
 use separate::spread::weights;
 use std::collections::{BTreeMap, BTreeSet};
 
@@ -27,7 +29,7 @@ fn each_filter_takes_a_half_to_the_even_grain() {
     }
     // 3×5 of a run of six that ends in 30 or 90: 2, 9/2, 15/2 and 17/2; 6, 27/2, 45/2 and 51/2.
     for (grains, last_four) in [(30, [2, 4, 8, 8]), (90, [6, 14, 22, 26]), (-30, [-2, -4, -8, -8]), (-90, [-6, -14, -22, -26])] {
-        let seasonal = seasonal_3x5(&alone(grains, 71)).rounded();
+        let seasonal = over_runs(&alone(grains, 71), ThreeByFive).rounded();
         assert_eq!([35, 47, 59, 71].map(|t| seasonal.at(t)), last_four);
     }
     // Henderson: half of each weight, 2,475/2 and -325/2 being halves.
@@ -116,13 +118,13 @@ impl Working {
         self.rounded(part, &henderson(series, terms))
     }
 
-    fn seasonal(&mut self, name: &str, step: &str, si: &Placed, filter: RunFilter) -> Placed {
-        let r = self.grains(format!("{name} R{step}"), &filter(si));
+    fn seasonal(&mut self, name: &str, step: &str, si: &Placed, filter: SeasonalFilter) -> Placed {
+        let r = self.grains(format!("{name} R{step}"), &over_runs(si, filter));
         let m = self.grains(format!("{name} M{step}"), &two_by_twelve(&r));
         r.less(&ends_repeated(&m, si.first, si.last()))
     }
 
-    fn replaced(&mut self, name: &str, si: &Placed, filter: RunFilter, labels: &[Label]) -> Placed {
+    fn replaced(&mut self, name: &str, si: &Placed, filter: SeasonalFilter, labels: &[Label]) -> Placed {
         let irregular = si.less(&self.seasonal(name, "", si, filter));
         let labels = labels_of_part(labels, si.first, si.last());
         let weights = weights(&irregular.values, &labels).expect("an allowed series");
@@ -138,24 +140,25 @@ impl Working {
         self.grains(format!("{name} means"), &means)
     }
 
-    /// T2 and S2 of a pass; with labels it is pass B.
-    fn pass(&mut self, name: &str, x: &[i64], labels: Option<&[Label]>) -> (Vec<i64>, Vec<i64>) {
+    /// T2 and S2 of a pass, with a filter for step 6; with labels it is pass B. The tables of pass D have the filter in their names.
+    fn pass(&mut self, name: &str, x: &[i64], labels: Option<&[Label]>, filter: SeasonalFilter) -> (Vec<i64>, Vec<i64>) {
         let n = x.len();
         let x = Placed::whole_series(x.to_vec());
         let t1 = self.grains(format!("{name} T1"), &two_by_twelve(&x));
         let mut si1 = x.part(6, n - 7).less(&t1);
         if let Some(labels) = labels {
-            si1 = self.replaced("B4", &si1, seasonal_3x3, labels);
+            si1 = self.replaced("B4", &si1, ThreeByThree, labels);
         }
-        let s1 = self.seasonal(name, "1", &si1, seasonal_3x3);
+        let s1 = self.seasonal(name, "1", &si1, ThreeByThree);
         let source = |t: usize| if t < 6 { t + 12 } else if t > n - 7 { t - 12 } else { t };
         let a1: Vec<i64> = (0..n).map(|t| x.at(t) - s1.at(source(t))).collect();
         let t2 = self.trend(&format!("{name} T2"), &a1, 13);
         let mut si2 = x.less(&t2);
         if let Some(labels) = labels {
-            si2 = self.replaced("B9", &si2, seasonal_3x5, labels);
+            si2 = self.replaced("B9", &si2, filter, labels);
         }
-        let s2 = self.seasonal(name, "2", &si2, seasonal_3x5);
+        let step = if name == "D" { format!("2 of {filter}") } else { "2".to_string() };
+        let s2 = self.seasonal(name, &step, &si2, filter);
         (t2.values, s2.values)
     }
 
@@ -172,12 +175,13 @@ impl Working {
     fn tables(&mut self, case: &Case) -> [Vec<i64>; 4] {
         let labels = labels(case.start, case.figures.len());
         let b1: Vec<i64> = case.figures.iter().map(|&figure| 1000 * i64::from(figure)).collect();
-        let b = self.pass("B", &b1, Some(&labels));
+        let b = self.pass("B", &b1, Some(&labels), ThreeByFive);
         let c1 = self.corrected("B20", &b1, b, &labels);
-        let c = self.pass("C", &c1, None);
-        let terms = Noise::of(&less(&less(&b1, &c.1), &c.0), &c.0).terms();
+        let c = self.pass("C", &c1, None, ThreeByFive);
+        let c13 = less(&less(&b1, &c.1), &c.0);
+        let (filter, terms) = (chosen(&questions(&c13, &c.1)), Noise::of(&c13, &c.0).terms());
         let d1 = self.corrected("C20", &b1, c, &labels);
-        let (_, d10) = self.pass("D", &d1, None);
+        let (_, d10) = self.pass("D", &d1, None, filter);
         let d11 = less(&b1, &d10);
         let d12 = self.trend(&format!("D12 of {terms} terms"), &less(&d1, &d10), terms).values;
         let d13 = less(&d11, &d12);
@@ -197,7 +201,7 @@ fn tables_of_the_program(case: &Case) -> [Vec<i64>; 4] {
 
 /// The program takes every half to the even grain, and the made-up series bring halves of each kind to every table that can meet one. The
 /// 3×3 cannot: 27 is odd. Nor can the middle of a final trend of 9 terms: 2,431 is odd. Nor can T1 of pass B, a sum of whole units: 1,000
-/// over 24 is 125 over 3.
+/// over 24 is 125 over 3. (3×9 can where its places present are 6, 8 or 10: over 162, 216 or 270.)
 #[test]
 fn halves_of_every_kind_are_met_and_go_to_the_even_grain() {
     let mut working = Working::new(to_even);
@@ -207,13 +211,13 @@ fn halves_of_every_kind_are_met_and_go_to_the_even_grain() {
     println!("halves above zero with an even and an odd grain below, and below zero:");
     for (name, counts) in &working.met {
         println!("{name} {counts:?}");
-        if ["B T1", "B4 R", "B R1", "C R1", "D R1", "D12 of 9 terms"].contains(&name.as_str()) {
+        if ["B T1", "B4 R", "B R1", "C R1", "D R1", "D R2 of 3x3", "D12 of 9 terms"].contains(&name.as_str()) {
             assert_eq!(counts, &[0; 4], "{name}");
         } else {
             assert!(counts.iter().all(|&count| count > 0), "{name} {counts:?}");
         }
     }
-    assert_eq!(working.met.len(), 35, "a table is missing");
+    assert_eq!(working.met.len(), 39, "a table is missing");
 }
 
 #[test]

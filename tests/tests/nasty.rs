@@ -3,22 +3,21 @@
 //! occur.
 
 use separate::decompose::decompose_fitting;
-use separate::exact::{distance, exact_pass, exact_working, FourDistances};
+use separate::exact::{distance, exact_pass, exact_pass_with, exact_working, FourDistances};
 use separate::exact_b::{exact_pass_b, DistanceB, Held};
 use separate::fraction::Fraction;
 use separate::generators::{
     cases, grain_cases, halves_of_the_final_trend, henderson_halves, small_random, smaller_random, Case,
     SEEDS_WITH_HALVES_AT_THE_ENDS, SEEDS_WITH_HALVES_IN_THE_MIDDLE, SEEDS_WITH_MANY_HALVES,
 };
-use separate::pass::pass;
-use separate::rows::LENGTHS;
+use separate::pass::pass_with;
+use separate::rows::{SeasonalFilter, ThreeByFive, ThreeByNine, ThreeByThree, LENGTHS, SEASONAL_FILTERS};
 use std::collections::{BTreeMap, BTreeSet};
 
 #[test]
 fn every_case_adds_back_and_keeps_its_distance() {
     let mut greatest: BTreeMap<usize, [f64; 4]> = BTreeMap::new();
-    let mut halves = [0usize; 6];
-    let mut halves_of_d12: BTreeMap<usize, usize> = BTreeMap::new();
+    let mut greatest_by_filter: BTreeMap<SeasonalFilter, [f64; 4]> = BTreeMap::new();
     let mut partly = 0;
     for case in cases() {
         let tables = decompose_fitting(&case.figures, case.start).expect("an allowed series");
@@ -31,37 +30,54 @@ fn every_case_adds_back_and_keeps_its_distance() {
                 partly += 1;
             }
         }
-        let exact = exact_working(&tables.b1, &tables.d1, tables.trend_terms);
+        let exact = exact_working(&tables.b1, &tables.d1, tables.seasonal_filter, tables.trend_terms);
         let four = FourDistances::measure(&tables.d10, &tables.d11, &tables.d12, &tables.d13, &exact);
         assert!(four.are_within_limits(), "{}", case.name);
-        let so_far = greatest.entry(tables.trend_terms).or_default();
-        for (best, (_, d, _)) in so_far.iter_mut().zip(four.with_limits()) {
-            *best = best.max(d.greatest.roughly());
+        let (filter, terms) = (tables.seasonal_filter, tables.trend_terms);
+        for so_far in [greatest.entry(terms).or_default(), greatest_by_filter.entry(filter).or_default()] {
+            for (best, (_, d, _)) in so_far.iter_mut().zip(four.with_limits()) {
+                *best = best.max(d.greatest.roughly());
+            }
         }
+    }
+    println!("greatest distances of D10 to D13 by the terms of the trend: {greatest:?}");
+    println!("and by the seasonal filter: {greatest_by_filter:?}");
+    // A trend within 1 grain is a wrong bound (tables/must-fail/trend-within-1).
+    assert!(LENGTHS.iter().all(|terms| greatest[terms][2] > 1.0));
+    assert!(SEASONAL_FILTERS.iter().all(|filter| greatest_by_filter[filter][0] > 1.0));
+    println!("months with a weight between: {partly}");
+    assert!(partly > 100);
+}
+
+#[test]
+fn halves_of_a_grain_occur() {
+    let mut halves = [0usize; 6];
+    let mut halves_of_r2: BTreeMap<SeasonalFilter, usize> = BTreeMap::new();
+    let mut halves_of_d12: BTreeMap<usize, usize> = BTreeMap::new();
+    for case in cases() {
+        let tables = decompose_fitting(&case.figures, case.start).expect("an allowed series");
         for steps in [&tables.b, &tables.c, &tables.d] {
             for (sum, count) in halves.iter_mut().zip(steps.halves) {
                 *sum += count;
             }
         }
         *halves_of_d12.entry(tables.trend_terms).or_default() += tables.d12_halves;
+        *halves_of_r2.entry(tables.seasonal_filter).or_default() += tables.d.halves[4];
     }
-    println!("greatest distances of D10 to D13 by the terms of the trend: {greatest:?}");
-    // A trend within 1 grain is a wrong bound (tables/must-fail/trend-within-1).
-    assert!(LENGTHS.iter().all(|terms| greatest[terms][2] > 1.0));
     println!("halves met in T1, R1, M1, T2, R2 and M2: {halves:?}; in D12 by its terms: {halves_of_d12:?}");
-    println!("months with a weight between: {partly}");
-    assert!(partly > 100);
+    println!("halves met in R2 of pass D by the filter: {halves_of_r2:?}");
     // 27ths never meet a half; all others do.
     assert_eq!(halves[1], 0);
     for index in [0, 2, 3, 4, 5] {
         assert!(halves[index] > 0);
     }
     assert!(LENGTHS.iter().all(|terms| halves_of_d12[terms] > 0));
+    assert_eq!(SEASONAL_FILTERS.map(|filter| halves_of_r2[&filter] > 0), [false, true, true]);
 }
 
 #[test]
 fn the_passes_keep_their_distance() {
-    let mut greatest = [0.0f64; 2];
+    let mut greatest: BTreeMap<SeasonalFilter, [f64; 2]> = BTreeMap::new();
     let mut series: Vec<(String, Vec<i64>)> = grain_cases().into_iter().map(|c| (c.name, c.grains)).collect();
     for case in cases().into_iter().step_by(7) {
         let tables = decompose_fitting(&case.figures, case.start).unwrap();
@@ -69,19 +85,21 @@ fn the_passes_keep_their_distance() {
         series.push((format!("{} C", case.name), tables.c1));
         series.push((format!("{} D", case.name), tables.d1));
     }
-    for (name, x) in series {
-        let steps = pass(&x);
-        let exact = exact_pass(&x);
-        let t2 = distance(&steps.t2.values, &exact.t2);
-        let s2 = distance(&steps.s2.values, &exact.s2);
-        assert!(t2.is_within(4), "{name}");
-        assert!(s2.is_within(10), "{name}");
-        greatest[0] = greatest[0].max(t2.greatest.roughly());
-        greatest[1] = greatest[1].max(s2.greatest.roughly());
+    for (index, (name, x)) in series.into_iter().enumerate() {
+        // Each series with 3×5, and with one of the other filters in turn.
+        for filter in [ThreeByFive, [ThreeByThree, ThreeByNine][index % 2]] {
+            let (steps, exact) = (pass_with(&x, filter), exact_pass_with(&x, filter));
+            let t2 = distance(&steps.t2.values, &exact.t2);
+            let s2 = distance(&steps.s2.values, &exact.s2);
+            assert!(t2.is_within(4), "{name} {filter}");
+            assert!(s2.is_within(10), "{name} {filter}");
+            let so_far = greatest.entry(filter).or_default();
+            *so_far = [so_far[0].max(t2.greatest.roughly()), so_far[1].max(s2.greatest.roughly())];
+        }
     }
     println!("greatest distances of T2 and S2: {greatest:?}");
     // S2 within 1 grain is a wrong bound (tables/must-fail/s2-within-1).
-    assert!(greatest[1] > 1.0);
+    assert!(greatest.values().all(|[_, s2]| *s2 > 1.0));
 }
 
 /// Pass B with its weights and neighbours held: T2 within 6 grains, S2 within
@@ -179,21 +197,21 @@ fn the_seeds_meet_halves_in_henderson_sums() {
 fn fractions_agree_with_floating_numbers() {
     for case in cases().into_iter().step_by(11) {
         let tables = decompose_fitting(&case.figures, case.start).unwrap();
-        let exact = exact_working(&tables.b1, &tables.d1, tables.trend_terms);
+        let exact = exact_working(&tables.b1, &tables.d1, tables.seasonal_filter, tables.trend_terms);
         for t in 0..case.figures.len() {
             let sum = exact.e10[t].plus(&exact.e12[t]).plus(&exact.e13[t]);
             assert_eq!(sum.to_string(), format!("{}/1", tables.b1[t]));
         }
-        let floating = floating_seasonal(&tables.d1);
+        let floating = floating_seasonal(&tables.d1, tables.seasonal_filter);
         for (fraction, value) in exact.e10.iter().zip(&floating) {
             assert!((fraction.roughly() - value).abs() < 1e-4, "{}: {} {}", case.name, fraction.roughly(), value);
         }
     }
 }
 
-/// S2 of one pass in floating numbers.
-fn floating_seasonal(series: &[i64]) -> Vec<f64> {
-    use separate::rows::{henderson_at, three_by_five, three_by_three};
+/// S2 of one pass in floating numbers, with a filter for step 6.
+fn floating_seasonal(series: &[i64], filter: SeasonalFilter) -> Vec<f64> {
+    use separate::rows::{henderson_at, three_by_three};
     let n = series.len();
     let x: Vec<f64> = series.iter().map(|&v| v as f64).collect();
     let centred = |table: &[f64], t: usize| {
@@ -233,8 +251,9 @@ fn floating_seasonal(series: &[i64]) -> Vec<f64> {
     for t in 0..n {
         let before = t / 12;
         let after = (n - 1 - t) / 12;
-        for (index, w) in three_by_five(before, after).iter().enumerate() {
-            r2[t] += *w as f64 / 60.0 * si2[t + 12 * index - 12 * before.min(3)];
+        let row = filter.row(before, after);
+        for (index, w) in row.weights.iter().enumerate() {
+            r2[t] += *w as f64 / row.divisor as f64 * si2[t + 12 * index - 12 * before.min(filter.reach())];
         }
     }
     (0..n).map(|t| r2[t] - centred(&r2, t.clamp(6, n - 7))).collect()

@@ -4,8 +4,9 @@
 use separate::calendar::labels;
 use separate::decompose::{decompose_fitting, Refusal};
 use separate::fraction::Fraction;
-use separate::pass::{henderson, seasonal_3x3, seasonal_3x5, two_by_twelve, Placed};
+use separate::pass::{henderson, over_runs, two_by_twelve, Placed};
 use separate::rounding::{nearest_away, nearest_even};
+use separate::rows::{ThreeByFive, ThreeByThree};
 use separate::spread::{correction, spreads_by_year, two_spreads, units, weight, weights};
 use separate::whole::Whole;
 
@@ -47,7 +48,7 @@ fn three_by_three_of_a_run_ending_in_27_000() {
         for month in 0..12 {
             let mut grains = vec![0i64; n];
             grains[n - 12 + month] = 27_000;
-            let result = seasonal_3x3(&Placed::whole_series(grains)).rounded();
+            let result = over_runs(&Placed::whole_series(grains), ThreeByThree).rounded();
             let run: Vec<i64> = (0..years).map(|y| result.at(12 * y + month)).collect();
             assert_eq!(&run[years - 3..], &[3_000, 7_000, 11_000]);
             assert!(run[..years - 3].iter().all(|&v| v == 0));
@@ -61,7 +62,7 @@ fn three_by_three_of_a_run_ending_in_27_000() {
 fn three_by_three_of_a_run_beginning_with_27_000() {
     let mut grains = vec![0i64; 60];
     grains[4] = 27_000;
-    let result = seasonal_3x3(&Placed::whole_series(grains)).rounded();
+    let result = over_runs(&Placed::whole_series(grains), ThreeByThree).rounded();
     let run: Vec<i64> = (0..5).map(|y| result.at(12 * y + 4)).collect();
     assert_eq!(run, vec![11_000, 7_000, 3_000, 0, 0]);
 }
@@ -73,7 +74,7 @@ fn three_by_five_of_a_run_ending_in_60_000() {
         for month in 0..12 {
             let mut grains = vec![0i64; n];
             grains[n - 12 + month] = 60_000;
-            let result = seasonal_3x5(&Placed::whole_series(grains)).rounded();
+            let result = over_runs(&Placed::whole_series(grains), ThreeByFive).rounded();
             let run: Vec<i64> = (0..years).map(|y| result.at(12 * y + month)).collect();
             assert_eq!(&run[years - 4..], &[4_000, 9_000, 15_000, 17_000]);
             assert!(run[..years - 4].iter().all(|&v| v == 0));
@@ -85,7 +86,7 @@ fn three_by_five_of_a_run_ending_in_60_000() {
 fn three_by_five_of_a_run_beginning_with_60_000() {
     let mut grains = vec![0i64; 72];
     grains[7] = 60_000;
-    let result = seasonal_3x5(&Placed::whole_series(grains)).rounded();
+    let result = over_runs(&Placed::whole_series(grains), ThreeByFive).rounded();
     let run: Vec<i64> = (0..6).map(|y| result.at(12 * y + 7)).collect();
     assert_eq!(run, vec![17_000, 15_000, 9_000, 4_000, 0, 0]);
 }

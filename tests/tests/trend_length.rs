@@ -6,7 +6,7 @@ use separate::exact::{distance, exact_working};
 use separate::fraction::Fraction;
 use separate::generators::{cases, place_by_bounds, series_at_the_bounds, trend_lengths};
 use separate::noise::Noise;
-use separate::pass::{henderson, seasonal, seasonal_3x5, Placed};
+use separate::pass::{henderson, seasonal, Placed};
 use separate::rows::{
     henderson_at, henderson_by_formula, henderson_rows, in_millionths, musgrave, musgrave_exact, musgrave_ratio, LENGTHS, MILLION,
 };
@@ -385,7 +385,7 @@ fn sums_of_pass_d(tables: &Tables) -> usize {
 fn second_trend_of_d_chosen_too(tables: &Tables) -> Parts {
     let t2 = henderson(&tables.d.a1.values, tables.trend_terms).rounded();
     let si2 = Placed::whole_series(tables.d1.clone()).less(&t2);
-    let d10 = seasonal(&si2, seasonal_3x5).s.values;
+    let d10 = seasonal(&si2, tables.seasonal_filter).s.values;
     let d12 = henderson(&less(&tables.d1, &d10), tables.trend_terms).rounded().values;
     (d10, d12)
 }
@@ -487,7 +487,7 @@ fn the_exact_working_takes_the_length_chosen() {
     let mut beyond = BTreeMap::new();
     for (case, terms) in trend_lengths().into_iter().filter(|(case, terms)| *terms != 13 && case.figures.len() < 120) {
         let tables = worked(&case);
-        let e12 = exact_working(&tables.b1, &tables.d1, 13).e12;
+        let e12 = exact_working(&tables.b1, &tables.d1, tables.seasonal_filter, 13).e12;
         *beyond.entry(terms).or_insert(0) += usize::from(!distance(&tables.d12, &e12).is_within(15));
     }
     println!("series beyond 15 grains of a trend of 13 terms, by their own: {beyond:?}");
