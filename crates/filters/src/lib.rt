@@ -321,7 +321,7 @@ pub fn three_by_five(first: usize, past: usize, x: &[i64], out: &mut [i64])
     );
 }
 
-// METHOD 2.8: 3x9 of each month's run, with a row for each pair of counts.
+// METHOD 2.8: 3x9 of each month's run, with a row for each pair of counts. Of fewer than ten years a place may be short on both sides.
 fn three_by_nine(first: usize, past: usize, x: &[i64], out: &mut [i64])
     requires { ⌜ FilterableMonths first past (now x) × (first ≤ past) × (length (now out) ≡ length (now x)) ⌝ }
     ensures { λ _. ⌜ FilteredMonths (tableSeasonal ThreeByNine) first past (now (x .entry)) (now (out .entry)) (now (out .exit)) ⌝ }

@@ -34,7 +34,7 @@ abbrev pub wanted : List Case → List (List ℤ)
 wanted [] = []
 wanted ((f gives w) ∷ cs) = w ∷ wanted cs
 
--- n months, v at place c and else 0; so many as 72; the numbers at some places
+-- n months, v at place c and else 0; 72 such months; the numbers at some places
 abbrev oneOf : ℕ → ℕ → ℕ → List ℤ
 oneOf n c v = tab n (λ t. cond (eqb t c) (pos v) (pos 0))
 

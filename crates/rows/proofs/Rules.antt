@@ -12,7 +12,7 @@ use Rattle.rows.specs.declared.SeasonalFilter.the-variants.{ThreeByThree
 use Rattle.rows.specs.declared.Terms.{Terms}
 use Rattle.rows.specs.declared.Terms.the-variants.{Nine, Thirteen, TwentyThree}
 use Rattle.rows.specs.Henderson.{hendersonLengths, indexOf, closedDenominator, closedNumerator, exactNumerator, roundedWeight, weightByRule, rowsByRule, HendersonRule}
-use Rattle.rows.specs.RowRules.{RowRules}
+use Rattle.rows.specs.RowRules.{seasonalFilters, filterIndex, RowRules}
 use Rattle.rows.proofs.RowTests.{AllFair}
 use Rattle.rows.proofs.Means.{AllMeans}
 
@@ -26,10 +26,16 @@ pub henderson-rule : HendersonRule
 unfolding closedDenominator closedNumerator exactNumerator rowsByRule weightByRule roundedWeight rowWeight middleRow denominator tableHenderson tab tabFrom times sumZ awayFromZero halfUp
 henderson-rule = record { complete = stands; musgrave = refl; closed-formula = refl; multiple = refl }
 
+-- every seasonal filter is in the list
+listed : (f : SeasonalFilter) → getD seasonalFilters (filterIndex f) ThreeByThree ≡ f
+listed ThreeByThree = refl
+listed ThreeByFive = refl
+listed ThreeByNine = refl
+
 -- the sums; the rows for the start mirror those for the end; no weight of a mean is negative; those of 3×9 follow from its full row
 pub row-rules : RowRules
 unfolding tab tabFrom sumZ rowFor middleRow rowCount rowWeight denominator table2x12 tableSeasonal tableHenderson
-row-rules = record { row-sums = refl; row-sum-2x12 = refl; mirrors = refl; not-negative = refl; full3x9 = refl; shared3x9 = refl; multiple = refl }
+row-rules = record { complete = listed; row-sums = refl; row-sum-2x12 = refl; mirrors = refl; not-negative = refl; full3x9 = refl; shared3x9 = refl; multiple = refl }
 
 -- every row of 2×12 and of the seasonal filters has non-negative weights that sum to one, and a denominator that divides 24 or 748,440
 pub means2x12 : AllMeans 24 table2x12

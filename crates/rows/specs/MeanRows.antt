@@ -29,8 +29,8 @@ rows3x5 =
     ∷ pos 9 ∷ pos 17 ∷ pos 17 ∷ pos 17 ∷ pos 0 ∷ pos 0 ∷ pos 0 ∷ []
 
 -- METHOD 2.8: 3×9, the full row in 27ths, the others over 748,440, which is 27 times 27,720: how they follow from the full row is RowRules.shared3x9.
--- Six rows each for 0, 1, .. 5 values before: for 5, 4, .. 0 after. (Runs have six values or more: a row for fewer than six serves no place, and obeys
--- the same rule)
+-- Six rows each for 0, 1, .. 5 values before: for 5, 4, .. 0 after. (Runs of SI2 have six values or more: a row for fewer serves no place, and obeys the
+-- same rule)
 abbrev pub rows3x9 : List ℤ
 rows3x9 =
     pos 138600 ∷ pos 138600 ∷ pos 138600 ∷ pos 138600 ∷ pos 110880 ∷ pos 83160 ∷ pos 0 ∷ pos 0 ∷ pos 0 ∷ pos 0 ∷ pos 0

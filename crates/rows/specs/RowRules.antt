@@ -4,9 +4,11 @@ use mathlib.Core.Bool.{cond}
 use mathlib.Core.List.{List, [], _∷_, _++_, map}
 use Prim.Native.Nat.{ℕ, _+_, _*_, _-_, _/_, _%_}
 use lib.Dec.{eqb}
+use lib.ListN.{getD}
 use lib.IntN.{ℤ, pos, natAbs, _+ℤ_, _*ℤ_}
 use Rattle.integers.specs.Lists.{tab}
 use Rattle.integers.specs.Sums.{sumZ}
+use Rattle.rows.specs.declared.SeasonalFilter.{SeasonalFilter}
 use Rattle.rows.specs.declared.SeasonalFilter.the-variants.{ThreeByThree, ThreeByFive, ThreeByNine}
 use Rattle.rows.specs.Table.{Table, rowFor, middleRow, rowWeight, denominator, middleWeights}
 use Rattle.rows.specs.FilterTables.{table2x12, tableSeasonal, overSeasonal, tableHenderson}
@@ -50,8 +52,8 @@ module _ (F : Table) (b a : ℕ) where
   abbrev pub shared : List ℤ
   shared = tab p (λ k. over *ℤ (pos p *ℤ full (F .side - b + k) +ℤ missing))
 
--- what f gives for the values before and after every place that the rows serve: with one row for each pair of counts, for all pairs; else for the
--- places that are short on one side at most
+-- what f gives for the values before and after every place that the rows serve: with one row for each pair of counts, for all pairs, those too that
+-- serve no place; else for the places that are short on one side at most
 abbrev pub everyPair : {A : Type 0} → Table → (ℕ → ℕ → A) → List A
 everyPair F f =
     let m = F .side + 1 in
@@ -59,9 +61,17 @@ everyPair F f =
     (tab m (λ b. f b (F .side)) ++ tab m (λ a. f (F .side) a))
     (tab (m * m) (λ i. f (i / m) (i % m)))
 
--- the seasonal filters; with Henderson's, the filters that serve the ends too
+-- every seasonal filter, and where it stands in that list; their tables; with Henderson's, the filters that serve the ends too
+abbrev pub seasonalFilters : List SeasonalFilter
+seasonalFilters = ThreeByThree ∷ ThreeByFive ∷ ThreeByNine ∷ []
+
+abbrev pub filterIndex : SeasonalFilter → ℕ
+filterIndex ThreeByThree = 0
+filterIndex ThreeByFive = 1
+filterIndex ThreeByNine = 2
+
 abbrev pub seasonals : List Table
-seasonals = map tableSeasonal (ThreeByThree ∷ ThreeByFive ∷ ThreeByNine ∷ [])
+seasonals = map tableSeasonal seasonalFilters
 
 abbrev pub withEnds : List Table
 withEnds = seasonals ++ map tableHenderson hendersonLengths
@@ -71,6 +81,8 @@ abbrev pub sizes : Table → List ℤ
 sizes F = map (λ w. pos (natAbs w)) (F .rows)
 
 pub record RowRules : Type 0 where
+  -- every seasonal filter stands in the list
+  pub complete : (f : SeasonalFilter) → getD seasonalFilters (filterIndex f) ThreeByThree ≡ f
   -- METHOD 2.1: each row sums to its denominator; 2×12 has its middle row alone
   pub row-sums : map (λ F. everyPair F (sum F)) withEnds ≡ map (λ F. everyPair F (over F)) withEnds
   pub row-sum-2x12 : sum table2x12 6 6 ≡ over table2x12 6 6

@@ -72,4 +72,4 @@ close-less {b} m h g i j = looser (close-minus (looser (close-times m h) (le-ref
 
 -- ---- in grains
 pub grains : {b k : ℕ} {x e : List ℤ} (g : ℕ) → 0 < k → b ≤ 1000 * g → Close b k x e → AllAtMostApart g k x e
-grains {b} {k} g some l h = record { at = λ t. record { denominator = some; size = omega (arith, h .close t, mul-le-mul-right k l) } }
+grains {b} {k} g some l h = record { at = λ t. record { positive = some; size = omega (arith, h .close t, mul-le-mul-right k l) } }

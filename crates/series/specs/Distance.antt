@@ -8,7 +8,7 @@ use Rattle.integers.specs.Lists.{_‼_}
 
 -- the size of d less the fraction e / k, whose denominator is not 0, is at most g grains
 pub record AtMostApart (g k : ℕ) (d e : ℤ) : Type 0 where
-  pub denominator : 0 < k
+  pub positive : 0 < k
   pub size : natAbs (pos k *ℤ d -ℤ e) ≤ g * k
 
 -- of series: at every place; past the end both are 0

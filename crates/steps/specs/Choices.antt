@@ -78,10 +78,11 @@ monthly f replacing1 replacing2 =
       replacing2 = replacing2;
     }
 
--- METHOD 3.1 to 3.7 where no value of SI1 and SI2 is replaced (3.10), with the filter f in step 6: pass D
+-- METHOD 3.1 to 3.7 where no value of SI1 and SI2 is replaced (3.10), with the filter f in step 6: passes C and D
 abbrev pub plainBy : SeasonalFilter → Choices
 plainBy f = monthly f none none
 
--- the same with 3×5 in step 6: pass C, and in pass B the weighing of SI1 (3.8)
+-- the same with 3×5 in step 6: for what does not look at step 6, T1 to T2, so for the weighing of SI1 in pass B (3.8); and for pass B were no value
+-- replaced (4.4)
 abbrev pub plainMonthly : Choices
 plainMonthly = plainBy ThreeByFive

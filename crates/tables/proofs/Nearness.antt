@@ -22,7 +22,7 @@ use Rattle.steps.specs.Exact.{exactS2}
 use Rattle.steps.proofs.Sound.{Sound, monthly-sound, plain-sound}
 use Rattle.steps.proofs.Distances.{near, overS2-some, own-s2, close-norm}
 use Rattle.tables.specs.Tables.{choicesD, B1, B7, B10, C1, C7, C10, D1, finalSeasonalFilter, D10, D11, finalTerms, D12, D13}
-use Rattle.tables.specs.Exact.{overD10, overE, E10, E11, E12, E13}
+use Rattle.tables.specs.Exact.{overD10, overE, E10, E11, E12, E13, OneDenominator}
 use Rattle.tables.specs.Nearness.{PassesNear, NearAt}
 use Rattle.tables.proofs.Sizes.{length-b1}
 
@@ -42,6 +42,9 @@ farD13 = farS2 + farD12
 -- B7, and B10: 12.6 grains
 abbrev farB7 : ℕ
 farB7 = 5050
+
+pub one-denominator : OneDenominator
+one-denominator = record { same = λ f g. refl }
 
 -- the choices of pass D are sound
 sound-d : (g : SeasonalFilter) → Sound (choicesD g)

@@ -1,5 +1,6 @@
 -- METHOD 6.2: the exact working of the results, from B1, D1, the seasonal filter of pass D and the length of D12's filter alone, as whole numbers over
 -- one denominator.
+use mathlib.Core.Path.{_≡_}
 use mathlib.Core.List.{List}
 use Prim.Native.Nat.{ℕ, _*_}
 use lib.IntN.{ℤ}
@@ -13,7 +14,7 @@ use Rattle.tables.specs.Tables.{choicesD}
 
 -- f is the seasonal filter of pass D
 module _ (f : SeasonalFilter) where
-  -- the denominators of the exact S2 of pass D and of E10 to E13: each is one number, whatever f is
+  -- the denominators of the exact S2 of pass D and of E10 to E13
   abbrev pub overD10 : ℕ
   overD10 = overS2 (choicesD f)
 
@@ -38,3 +39,7 @@ module _ (f : SeasonalFilter) where
   -- METHOD 6.2: E13, the exact irregular, is E11 less E12
   unfoldable pub E13 : List ℤ → List ℤ → Terms → List ℤ
   E13 b1 d1 terms = minus (E11 b1 d1) (E12 d1 terms)
+
+-- METHOD 6.2: that denominator is one number, whichever filter pass D takes (shown in proofs/Nearness.antt)
+pub record OneDenominator : Type 0 where
+  pub same : (f g : SeasonalFilter) → overE f ≡ overE g

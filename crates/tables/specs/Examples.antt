@@ -42,4 +42,4 @@ pub record ChosenByPassC : Type 0 where
   pub terms : finalTerms 7 rippled ≡ Nine
   pub filter : finalSeasonalFilter 7 rippled ≡ ThreeByNine
   pub seasonal : yearByYear (pos 0) 6 6 (D10 7 rippled) ≡ map (λ m. negℤ (pos m)) (17_888 ∷ 17_439 ∷ 17_206 ∷ 17_229 ∷ 16_987 ∷ 16_498 ∷ [])
-  pub final : yearByYear (pos 0) 6 6 (D12 7 rippled) ≡ map pos (1_096_732 ∷ 1_237_598 ∷ 1_375_082 ∷ 1_530_792 ∷ 1_678_021 ∷ 1_819_587 ∷ [])
+  pub trend : yearByYear (pos 0) 6 6 (D12 7 rippled) ≡ map pos (1_096_732 ∷ 1_237_598 ∷ 1_375_082 ∷ 1_530_792 ∷ 1_678_021 ∷ 1_819_587 ∷ [])
