@@ -8,4 +8,5 @@ pub mod ByMonth
 pub mod Window
 pub mod Stretches
 pub mod Stored
+pub mod ShortRuns
 pub mod Sliding

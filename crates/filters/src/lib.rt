@@ -233,28 +233,28 @@ fn month_runs(
     );
 }
 
-// The same month by month, each by the row for its own counts, where the months are too few for rows in turn: a place may be short on both sides.
+// The same month by month, each by the row for its own counts, where the months are too few for rows in turn: a place may be short on both sides. No
+// place then has the middle row, and the others are over one number.
 fn short_runs(
     side: usize,
     row_step: usize,
-    middle: usize,
-    ends: usize,
+    over: usize,
     rows: &[i64],
     first: usize,
     past: usize,
     x: &[i64],
     out: &mut [i64],
 )
-    requires { ⌜ Readable (runTable side «row_step» middle ends (now rows)) × FilterableMonths first past (now x) × (first ≤ past) × (length (now out) ≡ length (now x)) ⌝ }
-    ensures { λ _. ⌜ FilteredMonths (runTable side «row_step» middle ends (now (rows .entry))) first past (now (x .entry)) (now (out .entry)) (now (out .exit)) ⌝ }
+    requires { ⌜ Readable (runTable side «row_step» over over (now rows)) × FilterableMonths first past (now x) × (first ≤ past) × (length (now out) ≡ length (now x)) ⌝ }
+    ensures { λ _. ⌜ FilteredMonths (runTable side «row_step» over over (now (rows .entry))) first past (now (x .entry)) (now (out .entry)) (now (out .exit)) ⌝ }
 {
     let f = Shape {
         side: side,
         row_step: row_step,
         step: refusals::MONTHS_OF_YEAR,
         width: 2 * side + 1,
-        middle: middle,
-        ends: ends,
+        middle: over,
+        ends: over,
     };
     for t in first..past {
         let earlier = least((t - first) / refusals::MONTHS_OF_YEAR, side);
@@ -330,7 +330,6 @@ fn three_by_nine(first: usize, past: usize, x: &[i64], out: &mut [i64])
         short_runs(
             SIDE_3X9,
             ROW_STEP_3X9,
-            MIDDLE_3X9,
             ENDS_3X9,
             &ROWS_3X9,
             first,

@@ -16,24 +16,24 @@ use Rattle.filters.proofs.short_runs.Statement.{statement}
 use Rattle.filters.proofs.short_runs.Tie as tie
 
 abbrev Inv-loop : tie.InvT-loop
-Inv-loop side row-step middle ends rows first past x out₀ f t₀ out t =
-    (first ≤ t) × (t ≤ past) × Filled (pos 0) (valueAt (runTable side row-step middle ends rows) first past x) first t out₀ out
+Inv-loop side row-step over rows first past x out₀ f t₀ out t =
+    (first ≤ t) × (t ≤ past) × Filled (pos 0) (valueAt (runTable side row-step over over rows) first past x) first t out₀ out
 
 abbrev μ-loop : tie.MeasureT-loop
-μ-loop side row-step middle ends rows first past x out₀ f t₀ out t = past - t
+μ-loop side row-step over rows first past x out₀ f t₀ out t = past - t
 
 abbrev F : tie.Start Inv-loop μ-loop → Table
-F s = let a = s .args in runTable (a .side) (a .row-step) (a .middle) (a .ends) (a .rows .now)
+F s = let a = s .args in runTable (a .side) (a .row-step) (a .over) (a .over) (a .rows .now)
 
 -- a month less is left
 one-fewer : (t past : ℕ) → t < past → past - (t + 1) < past - t
 one-fewer t past l = omega arith
 
-mul-t14 : tie.Need-mul-t14 Inv-loop μ-loop
-mul-t14 c = omega (arith, c .pre .0 .side-most)
+mul-t13 : tie.Need-mul-t13 Inv-loop μ-loop
+mul-t13 c = omega (arith, c .pre .0 .side-most)
 
-add-t15 : tie.Need-add-t15 Inv-loop μ-loop
-add-t15 c = omega (arith, c .pre .0 .side-most)
+add-t14 : tie.Need-add-t14 Inv-loop μ-loop
+add-t14 c = omega (arith, c .pre .0 .side-most)
 
 loop-holds : tie.Need-loop-holds Inv-loop μ-loop
 loop-holds c = (omega arith, c .pre .2, filled-none)
@@ -57,8 +57,8 @@ by-row-requires : tie.Need-by-row-requires Inv-loop μ-loop
 by-row-requires c κs = let b = c .before in let i = b .before in let l = i .before in let s = l .before in
     (s .pre .0, place-served (F s) (s .args .first) (s .args .past) (l .loop .t) (b .least .ensures) (c .least2 .ensures) (s .pre .1) (omega arith) (omega arith), s .pre .1 .short)
 
-mul-t17 : tie.Need-mul-t17 Inv-loop μ-loop
-mul-t17 c = omega arith
+mul-t16 : tie.Need-mul-t16 Inv-loop μ-loop
+mul-t16 c = omega arith
 
 slice-set-from-out : tie.Need-slice-set-from-out Inv-loop μ-loop
 slice-set-from-out c = let i = c .before .before .before in omega (arith, i .before .before .pre .1 .inside, i .before .before .pre .3, i .before .loop .inv .2 .long)
@@ -90,8 +90,8 @@ short-runs-spec =
     (tie.spec
     Inv-loop
     μ-loop
-    mul-t14
-    add-t15
+    mul-t13
+    add-t14
     loop-holds
     sub-least
     least-requires
@@ -99,7 +99,7 @@ short-runs-spec =
     sub-least-3
     least-requires-2
     by-row-requires
-    mul-t17
+    mul-t16
     slice-set-from-out
     add-t
     loop-less

@@ -4,7 +4,9 @@ use native.Mathlib.Omega.{arith}
 use borrow.Author.Needs.{needs}
 use Rattle.rows.specs.declared.SeasonalFilter.the-variants.{ThreeByNine}
 use Rattle.rows.specs.FilterTables.{tableSeasonal}
+use Rattle.integers.proofs.FillingLaws.{filled-as}
 use Rattle.filters.proofs.Stored.{readableSeasonal}
+use Rattle.filters.proofs.ShortRuns.{short-readable, short-value}
 use Rattle.filters.proofs.three_by_nine.Statement.{statement}
 use Rattle.filters.proofs.three_by_nine.Tie as tie
 
@@ -15,8 +17,7 @@ slice-aggregate-short-runs : tie.Need-slice-aggregate-short-runs
 slice-aggregate-short-runs c = search needs
 
 short-runs-requires : tie.Need-short-runs-requires
-unfolding tableSeasonal
-short-runs-requires c κs = let s = c .before .before .before in (readableSeasonal ThreeByNine, s .pre .0, s .pre .1, s .pre .2)
+short-runs-requires c κs = let s = c .before .before .before in (short-readable, s .pre .0, s .pre .1, s .pre .2)
 
 slice-aggregate-month-runs : tie.Need-slice-aggregate-month-runs
 slice-aggregate-month-runs c = search needs
@@ -30,8 +31,8 @@ same-length : tie.Need-same-length
 same-length c = search needs
 
 returns : tie.Need-returns
-unfolding tableSeasonal
-returns c = c .before .short-runs .ensures
+returns c = let i = c .before .before .before .before in let a = i .before .args in
+    filled-as (c .before .short-runs .ensures) (λ t l m. short-value (a .first) (a .past) (a .x .now) t (i .if1 .taken) l m)
 
 same-length-2 : tie.Need-same-length-2
 same-length-2 c = search needs
