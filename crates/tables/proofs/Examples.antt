@@ -1,4 +1,4 @@
--- METHOD 4.4 to 4.6, the flooded January, the length of a final trend and a final seasonal filter, by computation.
+-- METHOD 4.4 to 4.6, the flooded January and a final trend by both choices, by computation.
 use mathlib.Core.Path.{refl}
 use Rattle.integers.specs.Lists.{tabFrom, tab}
 use Rattle.integers.specs.Root.{oneMore, rootIn, root}
@@ -31,5 +31,5 @@ unfolding tabFrom tab oneMore rootIn root halfUp awayFromZero halfToEven toGrain
     B1 B7 B10 B13 B17 B20 C1 C7 C10 C13 C17 C20 D1 finalSeasonalFilter D10 finalTerms D12 flooded rippled
 examples = (
   record { weights-si1 = refl; weights-si2 = refl; seasonal = refl; unreplaced = refl },
-  record { terms = refl; filter = refl; seasonal = refl; trend = refl },
+  record { trend = refl },
 )

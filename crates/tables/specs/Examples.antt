@@ -9,12 +9,10 @@ use lib.ListN.{getD}
 use lib.IntN.{ℤ, pos, negℤ}
 use Rattle.integers.specs.Lists.{tab}
 use Rattle.refusals.specs.Limits.{monthsOfYear}
-use Rattle.rows.specs.declared.SeasonalFilter.the-variants.{ThreeByNine}
-use Rattle.rows.specs.declared.Terms.the-variants.{Nine}
 use Rattle.steps.specs.Choices.{plainMonthly}
 use Rattle.steps.specs.Steps.{S2}
 use Rattle.tables.specs.PassB.{weightsB4, weightsB9}
-use Rattle.tables.specs.Tables.{B1, B10, finalSeasonalFilter, D10, finalTerms, D12}
+use Rattle.tables.specs.Tables.{B1, B10, D12}
 
 -- METHOD 4.4: 72 figures from start month 7, each 1,000 and the remainder of t times t by 17; but 500 at t = 18, the second January
 unfoldable pub flooded : List ℤ
@@ -37,9 +35,7 @@ pub record FloodedJanuary : Type 0 where
 unfoldable pub rippled : List ℤ
 rippled = tab 72 (λ t. pos (1000 + 12 * t + (2 * t * t + 13 * t) % 49))
 
--- METHOD 4.5 and 4.6: the final trend has 9 terms, and pass D takes 3×9, by the second question. What the Januaries get in D10 and D12
+-- METHOD 4.5 and 4.6: pass D takes 3×9, by the second question, and the final trend has 9 terms. What the Januaries get in D12, which follows both
+-- choices
 pub record ChosenByPassC : Type 0 where
-  pub terms : finalTerms 7 rippled ≡ Nine
-  pub filter : finalSeasonalFilter 7 rippled ≡ ThreeByNine
-  pub seasonal : yearByYear (pos 0) 6 6 (D10 7 rippled) ≡ map (λ m. negℤ (pos m)) (17_888 ∷ 17_439 ∷ 17_206 ∷ 17_229 ∷ 16_987 ∷ 16_498 ∷ [])
   pub trend : yearByYear (pos 0) 6 6 (D12 7 rippled) ≡ map pos (1_096_732 ∷ 1_237_598 ∷ 1_375_082 ∷ 1_530_792 ∷ 1_678_021 ∷ 1_819_587 ∷ [])
