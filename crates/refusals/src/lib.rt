@@ -43,6 +43,9 @@ pub enum Refusal {
     BadFileLength,
     WeightAbove(usize),
     BadYears,
+    BadCell(usize),
+    Gap(usize),
+    BadDouble(usize),
 }
 
 // The refusal's number on the sheet.
@@ -61,6 +64,9 @@ pub fn number(r: Refusal) -> u8
         Refusal::BadFileLength => 9,
         Refusal::WeightAbove(_) => 10,
         Refusal::BadYears => 11,
+        Refusal::BadCell(_) => 12,
+        Refusal::Gap(_) => 13,
+        Refusal::BadDouble(_) => 14,
     }
 }
 
@@ -80,6 +86,9 @@ pub fn place(r: Refusal) -> usize
         Refusal::BadFileLength => 0,
         Refusal::WeightAbove(t) => t,
         Refusal::BadYears => 0,
+        Refusal::BadCell(t) => t,
+        Refusal::Gap(t) => t,
+        Refusal::BadDouble(t) => t,
     }
 }
 
