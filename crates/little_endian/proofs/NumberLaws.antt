@@ -2,7 +2,7 @@
 use Prim.Native.Nat.{ℕ, zero, suc, _+_, _-_, _*_, _/_, _%_, _^_, _<_, _≤_}
 use mathlib.Core.Path.{_≡_, refl, ap}
 use mathlib.Core.List.{List, [], _∷_, _++_}
-use native.Mathlib.Nat.{pow-zero, pow-succ', pow-le-pow-right}
+use native.Mathlib.Nat.{mul-assoc, pow-zero, pow-succ', pow-le-pow-right}
 use native.Mathlib.Omega.{arith}
 use lib.ListN.{length, getD, take, drop}
 use lib.Seq.{sets, drop-cons, getD-append-add}
@@ -54,6 +54,19 @@ number-past front bytes at zero = refl
 number-past front bytes at (suc width) =
     let next : suc (length front + at) ≡ length front + suc at = omega arith in
     rw (next, getD-append-add front bytes at 0, number-past front bytes (suc at) width)
+
+-- a number in two parts, the low one first
+pub number-parts : (bytes : List ℕ) (at low high : ℕ) → numberAt bytes at (low + high) ≡ numberAt bytes at low + 256 ^ low * numberAt bytes (at + low) high
+unfolding numberAt
+number-parts bytes at zero high =
+    let e : at + 0 ≡ at = omega arith in
+    let z : 0 + high ≡ high = omega arith in
+    rw (e, z) (omega (arith, pow-zero 256))
+number-parts bytes at (suc low) high =
+    let e : at + suc low ≡ suc at + low = omega arith in
+    let s : suc low + high ≡ suc (low + high) = omega arith in
+    rw (s, e, number-parts bytes (suc at) low high, pow-succ' 256 low)
+    (omega (arith, mul-assoc 256 (256 ^ low) (numberAt bytes (suc at + low) high)))
 
 -- a number is read as it was written
 pub number-back : (width number : ℕ) (rest : List ℕ) → number < 256 ^ width → numberAt (bytesOf width number ++ rest) 0 width ≡ number

@@ -1,0 +1,3 @@
+-- Sums and differences are exact (Exact); which doubles count (Counting).
+pub mod Exact
+pub mod Counting
