@@ -1,0 +1,2 @@
+-- Cells by their kinds, and their checks (CellLaws).
+pub mod CellLaws

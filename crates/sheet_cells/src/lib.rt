@@ -1,0 +1,136 @@
+// METHOD 7.10 to 7.13, one cell of a members' sheet: what it holds, whether it is accepted, and what it adds to the series and to the total revision.
+use doubles::AsFigure;
+use refusals::Refusal;
+use refusals::Verdict;
+ghost use mathlib.Core.Path.{_≡_};
+ghost use Prim.Native.Nat.{_<_};
+ghost use Rattle.sheet_cells.specs.Cells.{cellAt, newest, revisedBy};
+ghost use Rattle.sheet_cells.specs.CellChecks.{cellChecks};
+ghost use Rattle.sheet_cells.specs.Contracts.{Lies, acceptance, Says};
+
+// Bytes of the sizes, and of a cell.
+pub const SIZES: usize = 3;
+
+pub const CELL: usize = 2 * doubles::DOUBLE;
+
+// A cell as its kind has it; a revision is the old figure and the new one.
+pub enum Cell {
+    Gap,
+    Figure(f64),
+    Revision(f64, f64),
+}
+
+// A cell that was read; a bad one has an unknown kind, or an unused double with a byte that is not zero.
+pub enum CellRead {
+    Known(Cell),
+    Bad,
+}
+
+// A month's number and a double of it, together until the sheet is accepted.
+pub struct Imported {
+    pub month: usize,
+    pub double: f64,
+}
+
+// The kinds.
+const GAP: u8 = 0;
+
+const FIGURE: u8 = 1;
+
+const REVISION: u8 = 2;
+
+// The cell of month t.
+pub fn cell_at(sheet: &[u8], n: usize, t: usize) -> CellRead
+    requires { ⌜ Lies (now sheet) n × (t < n) ⌝ }
+    ensures { λ r. ⌜ r ≡ cellAt (now (sheet .entry)) t ⌝ }
+{
+    let kind = sheet[SIZES + t];
+    let first = SIZES + n + CELL * t;
+    let second = first + doubles::DOUBLE;
+    if kind == REVISION {
+        let old = doubles::double_at(sheet, first);
+        let new = doubles::double_at(sheet, second);
+        return CellRead::Known(Cell::Revision(old, new));
+    }
+    if !doubles::unused_at(sheet, second) {
+        return CellRead::Bad;
+    }
+    if kind == FIGURE {
+        return CellRead::Known(Cell::Figure(doubles::double_at(sheet, first)));
+    }
+    if kind == GAP {
+        if doubles::unused_at(sheet, first) {
+            return CellRead::Known(Cell::Gap);
+        }
+    }
+    CellRead::Bad
+}
+
+// Row 14 of one double, with the number of its month.
+fn accept(imported: Imported) -> Verdict
+    ensures { λ r. ⌜ r ≡ acceptance imported ⌝ }
+{
+    match doubles::figure_of(imported.double) {
+        AsFigure::Figure(_) => Verdict::Fine,
+        AsFigure::Not => Verdict::Refused(Refusal::BadDouble(imported.month)),
+    }
+}
+
+// Rows 12 to 14 of the cell of month t.
+pub fn check_cell(sheet: &[u8], n: usize, t: usize) -> Verdict
+    requires { ⌜ Lies (now sheet) n × (t < n) ⌝ }
+    ensures { λ r. ⌜ Says (cellChecks (now (sheet .entry)) t) r ⌝ }
+{
+    let CellRead::Known(cell) = cell_at(sheet, n, t) else {
+        return Verdict::Refused(Refusal::BadCell(t));
+    };
+    match cell {
+        Cell::Gap => Verdict::Refused(Refusal::Gap(t)),
+        Cell::Figure(double) => accept(Imported { month: t, double }),
+        Cell::Revision(old, new) => {
+            let verdict = accept(Imported {
+                month: t,
+                double: old,
+            });
+            let Verdict::Fine = verdict else {
+                return verdict;
+            };
+            accept(Imported {
+                month: t,
+                double: new,
+            })
+        }
+    }
+}
+
+// What a cell brings in for month t: its figure, the new one of a revision. (Nothing is stored of a cell that is refused.)
+pub fn import(cell: CellRead, t: usize) -> Imported
+    ensures { λ r. ⌜ (r .month ≡ t) × (r .double ≡ newest cell) ⌝ }
+{
+    let CellRead::Known(known) = cell else {
+        return Imported {
+            month: t,
+            double: 0.0,
+        };
+    };
+    let double = match known {
+        Cell::Gap => 0.0,
+        Cell::Figure(figure) => figure,
+        Cell::Revision(_, new) => new,
+    };
+    Imported { month: t, double }
+}
+
+// The total with the revision of one cell more.
+pub fn revised(total: f64, cell: CellRead) -> f64
+    ensures { λ r. ⌜ r ≡ revisedBy total cell ⌝ }
+{
+    let CellRead::Known(known) = cell else {
+        return total;
+    };
+    match known {
+        Cell::Gap => total,
+        Cell::Figure(_) => total,
+        Cell::Revision(old, new) => total + (new - old),
+    }
+}
