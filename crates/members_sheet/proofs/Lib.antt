@@ -1,0 +1,5 @@
+-- The checks of all cells (CheckingLaws), the total revision (Sums), the answer (Answers), the theorems of METHOD 7.14 (SheetTrip).
+pub mod CheckingLaws
+pub mod Sums
+pub mod Answers
+pub mod SheetTrip

@@ -1,0 +1,93 @@
+-- `members_sheet::filling::fill` meets its contract: the months before t are filled with the figures of their cells.
+-- Assumes nothing.
+use Prim.Native.Nat.{ℕ, _+_, _-_, _≤_, _<_}
+use mathlib.Core.Path.{_≡_, sym, ap, subst, _∙_}
+use mathlib.Core.List.{List}
+use native.Mathlib.Omega.{arith}
+use borrow.Author.Needs.{needs, sfits-of}
+use lib.IntN.{ℤ, pos}
+use lib.ListN.{length, set}
+use mir.Syntax.{w32}
+use mir.Facts.{toZ-ofZ}
+use Rattle.integers.specs.Filling.{Filled}
+use Rattle.integers.proofs.FillingLaws.{filled-none, filled-more, filled-front}
+use Rattle.doubles.specs.Doubles.{numberIn, counts}
+use Rattle.sheet_cells.specs.Cells.{cellAt, newest}
+use Rattle.sheet_cells.proofs.CellLaws.{taken, newest-counts}
+use Rattle.members_sheet.specs.Series.{figuresIn}
+use Rattle.members_sheet.proofs.filling.fill.Statement.{statement}
+use Rattle.members_sheet.proofs.filling.fill.Tie as tie
+
+abbrev Inv-loop : tie.InvT-loop
+Inv-loop sheet n figures₀ t₀ figures t = (t ≤ n) × Filled (pos 0) (λ k. numberIn (newest (cellAt sheet k))) 0 t figures₀ figures
+
+abbrev μ-loop : tie.MeasureT-loop
+μ-loop sheet n figures₀ t₀ figures t = n - t
+
+-- one month more, at its own number
+more-at : {f : ℕ → ℤ} {t m : ℕ} {v : ℤ} {old new : List ℤ} → Filled (pos 0) f 0 t old new → t < length new → m ≡ t → v ≡ f t → Filled (pos 0) f 0 (t + 1) old (set new m v)
+more-at {f} {t} {m} {v} {old} {new} p l e q = subst (λ (k : ℕ). Filled (pos 0) f 0 (t + 1) old (set new k v)) (sym e) (filled-more p (omega arith) l q)
+
+loop-holds : tie.Need-loop-holds Inv-loop μ-loop
+loop-holds c = (omega arith, filled-none)
+
+cell-at-requires : tie.Need-cell-at-requires Inv-loop μ-loop
+cell-at-requires c κs = (c .before .before .before .pre .0, omega arith)
+
+import-requires : tie.Need-import-requires Inv-loop μ-loop
+import-requires c κs = search needs
+
+number-of-requires : tie.Need-number-of-requires Inv-loop μ-loop
+number-of-requires c κs =
+    let l = c .before .before .before in
+    let s = l .before .before in
+    let t = l .loop .t in
+    ap counts (c .import .ensures .1 ∙ ap newest (c .before .cell-at .ensures))
+    ∙ newest-counts (cellAt (s .args .sheet .now) t) (taken (s .args .sheet .now) t (s .pre .1 .each t (omega arith)))
+
+mul-t10 : tie.Need-mul-t10 Inv-loop μ-loop
+mul-t10 c = omega (arith, c .before .import .ensures .0)
+
+slice-set-from-figures : tie.Need-slice-set-from-figures Inv-loop μ-loop
+slice-set-from-figures c = omega (arith, c .before .import .ensures .0)
+
+add-t : tie.Need-add-t Inv-loop μ-loop
+add-t c = omega arith
+
+loop-less : tie.Need-loop-less Inv-loop μ-loop
+loop-less c = omega arith
+
+loop-again : tie.Need-loop-again Inv-loop μ-loop
+loop-again c =
+    let i = c .before in
+    let l = i .before .before .before in
+    let v = toZ-ofZ {w = w32} (sfits-of (c .number-of .ok)) ∙ c .number-of .ensures ∙ ap numberIn (i .import .ensures .1 ∙ ap newest (i .before .cell-at .ensures)) in
+    (omega arith, more-at (l .loop .inv .1) (omega arith) (i .import .ensures .0) v)
+
+same-length : tie.Need-same-length Inv-loop μ-loop
+same-length c = c .before .loop .inv .1 .long
+
+returns : tie.Need-returns Inv-loop μ-loop
+unfolding figuresIn
+returns c =
+    let l = c .before in
+    let s = l .before .before in
+    rw (← s .pre .0 .count) (filled-front (l .loop .inv .1) (omega arith) (omega (arith, s .pre .2)))
+
+pub fill-spec : {M : Type 1} → statement M
+fill-spec =
+    tie.close
+    (tie.spec
+    Inv-loop
+    μ-loop
+    loop-holds
+    cell-at-requires
+    import-requires
+    number-of-requires
+    mul-t10
+    slice-set-from-figures
+    add-t
+    loop-less
+    loop-again
+    same-length
+    returns)

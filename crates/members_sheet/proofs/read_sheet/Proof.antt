@@ -1,0 +1,54 @@
+-- `members_sheet::read_sheet` meets its contract: what the checks found decides, and nothing is stored before.
+-- Assumes nothing.
+use mathlib.Core.Path.{_≡_, refl, subst}
+use borrow.Author.Needs.{needs}
+use lib.ListN.{length}
+use Rattle.members_sheet.specs.declared.SheetChecked.{SheetChecked}
+use Rattle.members_sheet.specs.Contracts.{SheetFits, SheetSays}
+use Rattle.members_sheet.proofs.Answers.{refused, accepted}
+use Rattle.members_sheet.proofs.read_sheet.Statement.{statement}
+use Rattle.members_sheet.proofs.read_sheet.Tie as tie
+
+-- what the checks found
+found : (c : tie.After-check-sheet) {v : SheetChecked} → c .check-sheet .result ≡ v → let s = c .before .before in SheetSays (s .args .sheet .now) (length (s .args .figures .now)) v
+found c e = let s = c .before .before in subst (λ (v : SheetChecked). SheetSays (s .args .sheet .now) (length (s .args .figures .now)) v) e (c .check-sheet .ensures)
+
+fits : (c : tie.After-count) → let s = c .before .before .before .before in SheetFits (s .args .sheet .now) (length (s .args .figures .now)) (c .count .given .0 .0) (c .count .given .0 .1 .0)
+fits c = found (c .before .before) (c .count .given .1)
+
+check-sheet-requires : tie.Need-check-sheet-requires
+check-sheet-requires c κs = search needs
+
+enum-known-refusal : tie.Need-enum-known-refusal
+enum-known-refusal c = search needs
+
+enum-known-count : tie.Need-enum-known-count
+enum-known-count c = search needs
+
+fill-requires : tie.Need-fill-requires
+fill-requires c κs = let f = fits (c .before .before) in (f .lies, f .taken, f .enough)
+
+total-revision-requires : tie.Need-total-revision-requires
+total-revision-requires c κs = fits (c .before .before .before .before) .lies
+
+returns : tie.Need-returns
+returns c = refused (found (c .before .before .before) (c .before .refusal .given .1)) refl
+
+same-length : tie.Need-same-length
+same-length c = search needs
+
+returns-2 : tie.Need-returns-2
+returns-2 c = accepted (fits (c .before .before .before .before .before)) (c .total-revision .ensures) (c .before .before .fill .ensures)
+
+pub read-sheet-spec : {M : Type 1} → statement M
+read-sheet-spec =
+    tie.close
+    (tie.spec
+    check-sheet-requires
+    enum-known-refusal
+    enum-known-count
+    fill-requires
+    total-revision-requires
+    returns
+    same-length
+    returns-2)
