@@ -43,11 +43,14 @@ fn refusal_text(number: u8) -> &'static str {
         4 => "a lent slice has the wrong length",
         5 => "a figure outside -200,000 to 200,000",
         6 => "dropping leaves a group empty",
-        7 => "a file of fewer bytes than its header",
+        7 => "a file or sheet of fewer bytes than its header",
         8 => "the file's period is not 12",
-        9 => "the file's length is not that of n months",
+        9 => "the length of the file or sheet is not that of n months",
         10 => "a weight above 1,000",
         11 => "first year or year of the last month outside 1 to 9999",
+        12 => "an unknown kind, or an unused double with a byte that is not zero",
+        13 => "a gap in the members' sheet",
+        14 => "a double that is no whole number within -200,000 to 200,000",
         _ => "no number of the refusal sheet",
     }
 }

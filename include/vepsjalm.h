@@ -1,21 +1,21 @@
-/* Vepsjalm: seasonal adjustment of a monthly series by the additive X-11 method, and its desk file, in two forms. For C99 or later, and for
-   C++. `rt staticlib vepsjalm` in the repository's folder writes the library, target/staticlib/libvepsjalm.a, for x86-64 Linux; beside it only
-   the C library is needed. examples/decompose.c is a whole caller of reading and decomposing, examples/final-weights.c of writing too,
-   examples/columns.c of moving a file from one form to the other.
+/* Vepsjalm: seasonal adjustment of a monthly series by the additive X-11 method, its desk file, in two forms, and the members' sheet. For C99
+   or later, and for C++. `rt staticlib vepsjalm` in the repository's folder writes the library, target/staticlib/libvepsjalm.a, for x86-64
+   Linux; beside it only the C library is needed. examples/decompose.c is a whole caller of reading and decomposing, examples/final-weights.c
+   of writing too, examples/columns.c of moving a file from one form to the other, examples/sheet.c of reading a members' sheet.
 
    The filters are 2x12, 3x3, 3x5 and Henderson's with Musgrave's ends: 13 terms in a pass, and 9, 13 or 23 for the final trend. The last pass
    takes 3x3, 3x5 or 3x9 for the final seasonal. Both choices go by how noisy the series is (docs/METHOD.md, 4.5 and 4.6) and are not told. Extreme
    months are found by the library itself; in its first pass their values are replaced by means of their neighbours (3.8). What is filtered or
    corrected is rounded to the nearest thousandth, a half to the even one (1.3). No multiplicative working, calendar effects or forecasts.
 
-   For all seven functions:
+   For all eight functions:
 
    - They return 0 for success, else a refusal's number, for any lengths and any values. Either way they set what the last pointers
-     point to: the place, and before it in reading the count, the start month and by calendar month the first year, in writing and moving the
-     size, and in moving back the first year too.
+     point to: the place, and before it in reading the count, the start month, by calendar month the first year and of a members' sheet the
+     total revision, in writing and moving the size, and in moving back the first year too.
    - A slice is a pointer and, straight after it, its length, counted in entries and not in bytes.
    - All memory is the caller's. Nothing is allocated and there is no global state: many threads may call side by side, each on
-     memory of its own. Figures, weights and files that are only read may be shared. What a slice that is filled, or the scratch, holds
+     memory of its own. Figures, weights, files and sheets that are only read may be shared. What a slice that is filled, or the scratch, holds
      before the call does not matter.
    - The caller owes pointers that are aligned for their type, valid for their length (a single one for one entry), and never null, not
      even for length 0; that nothing a call writes to overlaps anything else that is lent to that call; and that nobody else changes lent
@@ -31,9 +31,9 @@
 /* The version of this header and of the library that goes with it (the library does not tell its own), major.minor.patch. The minor number
    goes up with every landing that changes what callers see, the patch number with every other; the major number is 0 while functions and
    constants may still change. */
-#define VEPSJALM_VERSION "0.15.0"
+#define VEPSJALM_VERSION "0.16.0"
 #define VEPSJALM_VERSION_MAJOR 0
-#define VEPSJALM_VERSION_MINOR 15
+#define VEPSJALM_VERSION_MINOR 16
 #define VEPSJALM_VERSION_PATCH 0
 
 /* The limits. */
@@ -46,17 +46,27 @@
 #define VEPSJALM_EARLIEST_YEAR 1       /* the year of a series' first month and that of its last, by calendar month */
 #define VEPSJALM_LATEST_YEAR 9999
 
-/* Entries of scratch for n months; bytes of a desk file for n months and of the longest, 3,604; the same by calendar month, 3,606. */
+/* Entries of scratch for n months; bytes of a desk file for n months and of the longest, 3,604; the same by calendar month, 3,606, and of a
+   members' sheet, 10,203. */
 #define VEPSJALM_SCRATCH_FOR(n) (8 * (n))
 #define VEPSJALM_FILE_LENGTH(n) (4 + 6 * (n))
 #define VEPSJALM_LONGEST_FILE VEPSJALM_FILE_LENGTH(VEPSJALM_MOST_MONTHS)
 #define VEPSJALM_COLUMNS_LENGTH(n) (6 + 6 * (n))
 #define VEPSJALM_LONGEST_COLUMNS VEPSJALM_COLUMNS_LENGTH(VEPSJALM_MOST_MONTHS)
+#define VEPSJALM_SHEET_LENGTH(n) (3 + 17 * (n))
+#define VEPSJALM_LONGEST_SHEET VEPSJALM_SHEET_LENGTH(VEPSJALM_MOST_MONTHS)
+
+/* The kinds of a members' sheet. */
+#define VEPSJALM_KIND_GAP 0      /* both doubles unused; a sheet with a gap is refused */
+#define VEPSJALM_KIND_FIGURE 1   /* the figure, then an unused double */
+#define VEPSJALM_KIND_REVISION 2 /* the old figure, then the new one */
 
 /* The refusal sheet. The words of vepsjalm_refusal_text say when each number is the answer; n is the number of figures in decomposing and
-   writing, the file's count in reading and moving. A file's header has 4 bytes, by calendar month 6 with the first year, and 6 bytes for
-   each month follow. The place is t of the first such figure or weight for VEPSJALM_FIGURE_OUTSIDE and VEPSJALM_WEIGHT_ABOVE, where t is a
-   month's place in the series, counted from 0; by calendar month too, wherever in the file it stands. It is 0 for all others.
+   writing, the count of the file or the members' sheet in reading and moving. A file's header has 4 bytes, by calendar month 6 with the first
+   year, and 6 bytes for each month follow; the sizes of a members' sheet have 3 bytes, and 17 for each month follow. The place is t of the
+   first such figure or weight for VEPSJALM_FIGURE_OUTSIDE and VEPSJALM_WEIGHT_ABOVE, and of the first bad cell for VEPSJALM_BAD_CELL,
+   VEPSJALM_GAP and VEPSJALM_BAD_DOUBLE, where t is a month's place in the series, counted from 0; by calendar month too, wherever in the file
+   it stands. It is 0 for all others.
 
    The checks, of which the first that applies is the answer, so that all figures are looked at before any weight:
 
@@ -65,6 +75,7 @@
        writing                                        1, 2, 3, 4, 5, 10
        reading by calendar month, moving either way   7, 1, 2, 3, 8, 11, 9, 4, 5, 10
        writing by calendar month                      1, 2, 3, 11, 4, 5, 10
+       reading a members' sheet                       7, 1, 2, 3, 9, 4, then of each cell, in order of t, 12, 13, 14
 
    In moving, 7 and 9 are of the file that is moved, 4 of the output. A refusal changes no slice; only 6, which is proved never to happen,
    would leave the scratch as success does. */
@@ -80,6 +91,9 @@
 #define VEPSJALM_BAD_FILE_LENGTH 9
 #define VEPSJALM_WEIGHT_ABOVE 10
 #define VEPSJALM_BAD_YEARS 11
+#define VEPSJALM_BAD_CELL 12
+#define VEPSJALM_GAP 13
+#define VEPSJALM_BAD_DOUBLE 14
 
 /* A constant text for any number. */
 static inline const char *vepsjalm_refusal_text(uint8_t number)
@@ -92,11 +106,14 @@ static inline const char *vepsjalm_refusal_text(uint8_t number)
     case VEPSJALM_WRONG_LENGTH:    return "a lent slice has the wrong length";
     case VEPSJALM_FIGURE_OUTSIDE:  return "a figure outside -200,000 to 200,000";
     case VEPSJALM_EMPTY_GROUP:     return "dropping leaves a group empty";
-    case VEPSJALM_NO_HEADER:       return "a file of fewer bytes than its header";
+    case VEPSJALM_NO_HEADER:       return "a file or sheet of fewer bytes than its header";
     case VEPSJALM_BAD_PERIOD:      return "the file's period is not 12";
-    case VEPSJALM_BAD_FILE_LENGTH: return "the file's length is not that of n months";
+    case VEPSJALM_BAD_FILE_LENGTH: return "the length of the file or sheet is not that of n months";
     case VEPSJALM_WEIGHT_ABOVE:    return "a weight above 1,000";
     case VEPSJALM_BAD_YEARS:       return "first year or year of the last month outside 1 to 9999";
+    case VEPSJALM_BAD_CELL:        return "an unknown kind, or an unused double with a byte that is not zero";
+    case VEPSJALM_GAP:             return "a gap in the members' sheet";
+    case VEPSJALM_BAD_DOUBLE:      return "a double that is no whole number within -200,000 to 200,000";
     default:                       return "no number of the refusal sheet";
     }
 }
@@ -222,6 +239,22 @@ uint8_t vepsjalm_to_columns(
    place       set to the refusal's place; 0 after success */
 uint8_t vepsjalm_from_columns(
     const uint8_t *file, size_t file_length, uint8_t *out, size_t out_length, size_t *size, uint16_t *first_year, size_t *place);
+
+/* Reading a members' sheet. It has the count n in 2 bytes and the start month in 1, then n kinds of 1 byte, then n cells of two doubles (IEEE
+   754, 8 bytes each), all low byte first: 3+17n bytes. By its kind a cell is a gap, a figure, or a revision with the old figure and the new
+   one; an unused double is eight zero bytes. A double counts only if it is a whole number of units, -200,000 to 200,000; negative zero is 0.
+
+   sheet       the bytes
+   figures     at least n entries; success fills the first n, in units, with the new figure where there is a revision, and leaves the rest.
+               Nothing is stored before every cell is accepted
+   count       set to n; 0 after a refusal
+   start       set to the start month, 1 to 12; 0 after a refusal
+   revision    set to the total revision, new less old over all revisions: a whole number of units, exact, and never negative zero; positive zero
+               after a refusal
+   place       set to the refusal's place; 0 after success */
+uint8_t vepsjalm_read_sheet(
+    const uint8_t *sheet, size_t sheet_length, int32_t *figures, size_t figures_length,
+    size_t *count, uint8_t *start, double *revision, size_t *place);
 
 #ifdef __cplusplus
 }

@@ -7,7 +7,7 @@ use lib.IntN.{ℤ}
 use Rattle.refusals.specs.Sheet.{row}
 use Rattle.refusals.specs.Numbers.{numberOf, placeOf}
 use Rattle.refusals.specs.declared.Refusal.{Refusal}
-use Rattle.refusals.specs.declared.Refusal.the-variants.{TooShort, TooLong, BadStart, WrongLength, FigureOutside, EmptyGroup, NoHeader, BadPeriod, BadFileLength, WeightAbove, BadYears}
+use Rattle.refusals.specs.declared.Refusal.the-variants.{TooShort, TooLong, BadStart, WrongLength, FigureOutside, EmptyGroup, NoHeader, BadPeriod, BadFileLength, WeightAbove, BadYears, BadCell, Gap, BadDouble}
 use Rattle.decompose.specs.Promise as tables
 use Rattle.decompose.specs.declared.Decomposed.{Decomposed}
 use Rattle.decompose.specs.declared.Decomposed.the-variants as decomposed
@@ -26,6 +26,9 @@ numbers BadPeriod e = omega arith
 numbers BadFileLength e = omega arith
 numbers (WeightAbove t) e = omega arith
 numbers BadYears e = omega arith
+numbers (BadCell t) e = omega arith
+numbers (Gap t) e = omega arith
+numbers (BadDouble t) e = omega arith
 
 module _ {start : ℕ} {f : List ℤ} {lent left : tables.Slices} {r : Decomposed} (p : tables.Promise start f lent r left) where
   pub has-tables : r ≡ decomposed.Tables → DecomposeNumbers start f lent 0 0 left

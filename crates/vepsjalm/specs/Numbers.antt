@@ -1,4 +1,5 @@
--- METHOD 8.5: what decomposing answers as numbers, for callers in other languages. The desk file's functions: desk_numbers/specs/DeskNumbers.antt.
+-- METHOD 8.5: what decomposing answers as numbers, for callers in other languages. The desk file's functions: desk_numbers/specs/DeskNumbers.antt;
+-- the members' sheet's: sheet_numbers/specs/SheetNumbers.antt.
 use mathlib.Core.Path.{_≡_}
 use mathlib.Core.List.{List}
 use Prim.Native.Nat.{ℕ, _<_}

@@ -1,7 +1,8 @@
-// METHOD 8.5: decomposing, and reading, writing and moving desk files, for callers in other languages: an answer is a number, 0 for success, else the
-// refusal's number.
+// METHOD 8.5: decomposing, reading, writing and moving desk files, and reading members' sheets, for callers in other languages: an answer is a number, 0
+// for success, else the refusal's number.
 ghost use Rattle.desk_forms.specs.Header.{series};
 ghost use Rattle.desk_numbers.specs.DeskNumbers.{BackNumbers, ForwardNumbers, ReadColumnsNumbers, ReadNumbers, WriteColumnsNumbers, WriteNumbers};
+ghost use Rattle.sheet_numbers.specs.SheetNumbers.{SheetNumbers};
 ghost use Rattle.vepsjalm.specs.Numbers.{DecomposeNumbers};
 use decompose::Decomposed;
 
@@ -117,4 +118,20 @@ pub extern "C" fn vepsjalm_from_columns(
     ensures { λ r. ⌜ BackNumbers (now (file .entry)) (now (out .entry)) r (now (size .exit)) (now (year .exit)) (now (place .exit)) (now (out .exit)) ⌝ }
 {
     desk_numbers::from_columns(file, out, size, year, place)
+}
+
+// Reading a members' sheet, as `sheet_numbers` answers it.
+#[no_mangle]
+pub extern "C" fn vepsjalm_read_sheet(
+    sheet: &[u8],
+    figures: &mut [i32],
+    count: &mut usize,
+    start: &mut u8,
+    revision: &mut f64,
+    place: &mut usize,
+) -> u8
+    ensures { λ r. ⌜ SheetNumbers (now (sheet .entry)) (now (figures .entry))
+        r (now (count .exit)) (now (start .exit)) (now (revision .exit)) (now (place .exit)) (now (figures .exit)) ⌝ }
+{
+    sheet_numbers::read_sheet(sheet, figures, count, start, revision, place)
 }

@@ -1,0 +1,2 @@
+-- An answer as numbers.
+pub mod Answers
