@@ -23,6 +23,7 @@ use separate::rows::{
     SEASONAL_FILTERS,
 };
 use separate::seasonality::Question;
+use separate::sheet::{self, read_sheet, Cell};
 use separate::spread::weights;
 
 const USAGE: &str = "separate tables START      figures: t figure D10 D11 D12 D13 B17 C17
@@ -45,6 +46,8 @@ separate mkcolumns START YEAR
                            figures: a desk file by calendar month with all weights 1000
 separate tocolumns YEAR    a desk file, YEAR being that of its first month: the same by calendar month
 separate fromcolumns       a desk file by calendar month: the same in the order of t; `year Y` on standard error
+separate mksheet START     figures, or `old>new` for a revision: a members' sheet, without any check
+separate readsheet         a members' sheet: `count start total`, then the figures, one a line
 separate rows              the filter rows
 separate cases             all made-up series, one a line: name start figures
 separate case NAME         one of them, figures only
@@ -82,6 +85,10 @@ fn run(words: &[&str]) -> Result<Vec<u8>, String> {
         ["mkcolumns", start, year] => make_columns(&figures()?, month(start)?, first_year(year)?),
         ["tocolumns", year] => move_forward(&standard_input()?, first_year(year)?),
         ["fromcolumns"] => move_back(&standard_input()?),
+        ["mksheet", start] => {
+            let cells = cells()?;
+            Ok(sheet::bytes_of(month(start)?, &cells))
+        }
         _ => Ok(text(words)?.into_bytes()),
     }
 }
@@ -99,6 +106,7 @@ fn text(words: &[&str]) -> Result<String, String> {
         ["passdistances"] => answered(print_pass_distances(&numbers()?)),
         ["passbdistances", start] => answered(print_pass_b_distances(&figures()?, month(start)?)),
         ["print"] => printed(&standard_input()?),
+        ["readsheet"] => answered(print_sheet(&standard_input()?)),
         ["rows"] => print_rows(),
         ["cases"] => {
             let mut text = String::new();
@@ -150,6 +158,25 @@ fn numbers() -> Result<Vec<i64>, String> {
 
 fn figures() -> Result<Vec<i32>, String> {
     numbers()?.into_iter().map(|v| i32::try_from(v).map_err(|_| format!("no room in 4 bytes: {v}"))).collect()
+}
+
+/// A whole number that a double can be for sure.
+fn whole(word: &str) -> Result<i64, String> {
+    let number: i64 = word.parse().map_err(|_| format!("no whole number: {word}"))?;
+    if number.unsigned_abs() >> 53 != 0 {
+        return Err(format!("not below 2^53 in size: {word}"));
+    }
+    Ok(number)
+}
+
+/// The cells of a list of figures and revisions.
+fn cells() -> Result<Vec<Cell>, String> {
+    let text = String::from_utf8(standard_input()?).map_err(|e| e.to_string())?;
+    let cell = |word: &str| match word.split_once('>') {
+        Some((old, new)) => Ok(Cell::revision(whole(old)?, whole(new)?)),
+        None => Ok(Cell::figure(whole(word)?)),
+    };
+    text.split_whitespace().map(cell).collect()
 }
 
 fn month(word: &str) -> Result<u8, String> {
@@ -338,6 +365,15 @@ fn move_back(new: &[u8]) -> Result<Vec<u8>, String> {
     let (old, first_year) = from_columns(new, usize::MAX).map_err(|refusal| refusal.to_string())?;
     eprintln!("year {first_year}");
     Ok(old)
+}
+
+fn print_sheet(bytes: &[u8]) -> Result<String, Refusal> {
+    let series = read_sheet(bytes, usize::MAX)?;
+    let mut text = format!("{} {} {}\n", series.n(), series.start, series.total);
+    for figure in &series.figures {
+        text.push_str(&format!("{figure}\n"));
+    }
+    Ok(text)
 }
 
 fn seasonal_row_lines(filter: SeasonalFilter) -> String {

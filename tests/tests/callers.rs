@@ -6,6 +6,7 @@ use separate::columns::{self, from_columns, read_columns, to_columns, write_colu
 use separate::decompose::{decompose, decompose_fitting, Lent, Refusal, Tables, FEWEST_MONTHS, FIGURE_LIMIT, MOST_MONTHS};
 use separate::desk::{bytes_of, read, write, DeskSeries};
 use separate::generators::book_series;
+use separate::sheet::{self, read_sheet, Cell, SheetSeries};
 use std::fs;
 use std::io::Write;
 use std::os::unix::fs::symlink;
@@ -13,10 +14,10 @@ use std::path::{Path, PathBuf};
 use std::process::{Command, Output, Stdio};
 use std::sync::LazyLock;
 
-const VERSION: [usize; 3] = [0, 15, 0];
+const VERSION: [usize; 3] = [0, 16, 0];
 
 /// The words of the refusal sheet by number, and those for every other number.
-const TEXTS: [&str; 12] = [
+const TEXTS: [&str; 15] = [
     "no refusal",
     "n below 72",
     "n above 600",
@@ -24,11 +25,14 @@ const TEXTS: [&str; 12] = [
     "a lent slice has the wrong length",
     "a figure outside -200,000 to 200,000",
     "dropping leaves a group empty",
-    "a file of fewer bytes than its header",
+    "a file or sheet of fewer bytes than its header",
     "the file's period is not 12",
-    "the file's length is not that of n months",
+    "the length of the file or sheet is not that of n months",
     "a weight above 1,000",
     "first year or year of the last month outside 1 to 9999",
+    "an unknown kind, or an unused double with a byte that is not zero",
+    "a gap in the members' sheet",
+    "a double that is no whole number within -200,000 to 200,000",
 ];
 const NO_TEXT: &str = "no number of the refusal sheet";
 
@@ -127,6 +131,7 @@ static IN_C: LazyLock<Example> = LazyLock::new(|| Example::built("examples/decom
 static IN_RUST: LazyLock<Example> = LazyLock::new(|| Example::built("examples/decompose.rs", "rustc "));
 static FINAL_WEIGHTS: LazyLock<Example> = LazyLock::new(|| Example::built("examples/final-weights.c", "cc "));
 static COLUMNS: LazyLock<Example> = LazyLock::new(|| Example::built("examples/columns.c", "cc "));
+static SHEET: LazyLock<Example> = LazyLock::new(|| Example::built("examples/sheet.c", "cc "));
 
 fn given(output: &Output) -> (i32, String, String) {
     (output.status.code().expect("an exit status"), text(&output.stdout), text(&output.stderr))
@@ -553,6 +558,139 @@ fn columns_without_output() {
     }
 }
 
+/// The bytes of a members' sheet: the kind and both doubles of each month.
+fn sheet_of(start: u8, cells: &[(u8, f64, f64)]) -> Vec<u8> {
+    let mut bytes = (cells.len() as u16).to_le_bytes().to_vec();
+    bytes.push(start);
+    bytes.extend(cells.iter().map(|cell| cell.0));
+    bytes.extend(cells.iter().flat_map(|cell| [cell.1, cell.2]).flat_map(f64::to_le_bytes));
+    bytes
+}
+
+/// What the example prints of an accepted sheet with this series and total revision.
+fn sheet_text(figures: &[i32], start: u8, revision: i64) -> String {
+    let (n, tables) = (figures.len(), decompose_fitting(figures, start).expect("tables"));
+    let mut text = format!("months {n} start {start} revision {revision}\n  t  figure          D11\n");
+    for t in n - 12..n {
+        text += &format!("{t:>3} {:>7} {:>12}\n", figures[t], units(tables.d11[t]));
+    }
+    text
+}
+
+/// What the example gives for this sheet, which is stored by this name.
+fn on_sheet(name: &str, bytes: &[u8], redirections: &str) -> (i32, String, String) {
+    let file = stored(name, bytes);
+    SHEET.on(&[], &format!("<'{}' {redirections}", file.display()))
+}
+
+/// The example of the repository, with its revisions from the list that it is made of.
+#[test]
+fn sheet_by_the_heading() {
+    let list = fs::read_to_string(root().join("examples/revised.txt")).expect("a list");
+    let number = |word: &str| word.parse::<i64>().expect("a number");
+    let revisions = list.split_whitespace().filter_map(|word| word.split_once('>')).map(|(old, new)| number(new) - number(old));
+    let printed = (0, sheet_text(&book_series(), 10, revisions.sum()), String::new());
+    assert!(printed.1.starts_with("months 114 start 10 revision -17\n") && printed.1.lines().count() == 14);
+    let run = SHEET.run();
+    assert!(run.ends_with(" < examples/revised.sheet"));
+    assert_eq!(given(&shell(&run)), printed, "{run}");
+    let (program, file) = run.split_once(" < ").expect("a program and its input");
+    assert_eq!(given(&shell(&format!("(dd bs=1000 count=1 2>/dev/null; sleep 0.1; cat) < {file} | {program}"))), printed, "in pieces");
+}
+
+/// Sheets that are accepted, with their figures, start month and total revision: zeros of both signs, one of them all that is revised;
+/// differences that cancel; the largest totals; months that are revised by turns.
+fn accepted_sheets() -> Vec<(Vec<u8>, Vec<i32>, u8, i64)> {
+    let of = |n: usize, start: u8, cell: fn(usize) -> (u8, f64, f64)| {
+        let cells: Vec<(u8, f64, f64)> = (0..n).map(cell).collect();
+        let figures = cells.iter().map(|&(kind, first, second)| if kind == 2 { second as i32 } else { first as i32 }).collect();
+        let revision = cells.iter().filter(|cell| cell.0 == 2).map(|&(_, old, new)| new as i64 - old as i64).sum();
+        (sheet_of(start, &cells), figures, start, revision)
+    };
+    vec![
+        of(72, 7, |t| (1, (t * t % 7) as f64 - 3.0, 0.0)),
+        of(72, 12, |t| if t == 9 { (2, 0.0, -0.0) } else { (1, -0.0, 0.0) }),
+        of(73, 1, |t| (2, t as f64, 72.0 - t as f64)),
+        of(600, 1, |_| (2, -200_000.0, 200_000.0)),
+        of(600, 2, |_| (2, 200_000.0, -200_000.0)),
+        of(100, 3, |t| if t % 3 == 0 { (2, 5.0, (t * t % 97) as f64) } else { (1, (t * 11 % 60) as f64, 0.0) }),
+    ]
+}
+
+#[test]
+fn sheet_that_is_accepted() {
+    let totals: Vec<i64> = accepted_sheets().iter().map(|sheet| sheet.3).collect();
+    assert!(totals[..5] == [0, 0, 0, 240_000_000, -240_000_000] && totals[5] > 0, "{totals:?}");
+    for (bytes, figures, start, revision) in accepted_sheets() {
+        assert_eq!(read_sheet(&bytes, MOST_MONTHS), Ok(SheetSeries { start, figures: figures.clone(), total: revision }));
+        let printed = (0, sheet_text(&figures, start, revision), String::new());
+        for redirections in ["", "2>/dev/full", "2>&-"] {
+            assert_eq!(on_sheet("accepted.sheet", &bytes, redirections), printed, "{} months, {redirections}", figures.len());
+        }
+    }
+}
+
+/// Sheets that are refused, with the number and the place.
+fn refused_sheets() -> Vec<(Vec<u8>, u8, usize)> {
+    let same = |n: usize, start: u8| sheet_of(start, &vec![(1, 100.0, 0.0); n]);
+    let with = |place: usize, cell: (u8, f64, f64)| {
+        let mut cells = [(2, 90.0, 100.0); 72];
+        (cells[place], cells[71]) = (cell, (3, 0.5, 0.5)); // a bad one behind it changes nothing
+        sheet_of(1, &cells)
+    };
+    let mut longer = same(600, 1);
+    longer.extend([0; 9000]);
+    let mut refused = vec![(vec![], 7, 0), (vec![72, 0], 7, 0), (same(71, 1), 1, 0), (vec![0; 3], 1, 0), (same(601, 1), 2, 0),
+        (vec![255; 3], 2, 0), (same(72, 0), 3, 0), (same(72, 13), 3, 0), (same(72, 1)[..1226].to_vec(), 9, 0),
+        (longer[..10_204].to_vec(), 9, 0), (longer, 9, 0), (book(), 9, 0)];
+    for cell in [(3, 0.0, 0.0), (255, 0.0, 0.0), (1, 100.0, 1.0), (1, 100.0, -0.0), (1, 0.5, 1.0), (0, 100.0, 0.0), (0, 0.0, 100.0),
+        (0, 0.0, -0.0)] {
+        refused.push((with(5, cell), 12, 5));
+    }
+    refused.push((with(70, (0, 0.0, 0.0)), 13, 70));
+    for bad in [0.5, -0.1, 200_001.0, -200_001.0, 199_999.5, 5e-324, f64::NAN, f64::INFINITY, f64::NEG_INFINITY, 4_294_967_396.0, 1e300] {
+        refused.extend([(with(0, (1, bad, 0.0)), 14, 0), (with(44, (2, bad, 100.0)), 14, 44), (with(44, (2, 100.0, bad)), 14, 44)]);
+    }
+    refused
+}
+
+#[test]
+fn sheet_that_is_refused() {
+    for number in [7, 1, 2, 3, 9, 12, 13, 14] {
+        assert!(refused_sheets().iter().any(|sheet| sheet.1 == number), "{number}");
+    }
+    for (bytes, number, place) in refused_sheets() {
+        assert_eq!(read_sheet(&bytes, MOST_MONTHS), Err(Refusal { number, place }));
+        let on = |redirections: &str| on_sheet("refused.sheet", &bytes, redirections);
+        assert_eq!(on(""), (number.into(), String::new(), refusal_line(number, place)), "{number} {place}");
+        for redirections in ["2>/dev/full", "2>&-", ">&- 2>&-"] {
+            assert_eq!(on(redirections), (number.into(), String::new(), String::new()), "{number} {place}, {redirections}");
+        }
+    }
+}
+
+#[test]
+fn sheet_with_failing_input_and_output() {
+    let bytes = fs::read(root().join("examples/revised.sheet")).expect("the example");
+    let on = |redirections: &str| on_sheet("failing.sheet", &bytes, redirections);
+    for (input, why) in [("<examples", "Is a directory"), ("<&-", "Bad file descriptor")] {
+        assert_failed(SHEET.on(&[], input), &format!("standard input: {why}"), input);
+        for error in ["2>/dev/full", "2>&-", ">&- 2>&-"] {
+            assert_eq!(SHEET.on(&[], &format!("{input} {error}")), (FAILED, String::new(), String::new()), "{input} {error}");
+        }
+    }
+    for (output, why) in [(">/dev/full", "No space left on device"), (">&-", "Bad file descriptor")] {
+        assert_failed(on(output), &format!("standard output: {why}"), output);
+        for error in ["2>/dev/full", "2>&-"] {
+            assert_eq!(on(&format!("{output} {error}")), (FAILED, String::new(), String::new()), "{output} {error}");
+        }
+    }
+    let named = Path::new("examples/revised.sheet");
+    for words in [&[named][..], &[named, named]] {
+        assert_failed(SHEET.on(words, "</dev/null"), "usage: sheet < examples/revised.sheet\n", "usage");
+    }
+}
+
 #[test]
 fn examples_in_c_close_their_files() {
     let [book_file, refused_file] = [stored("closing.desk", &book()), stored("closing-refused.desk", b"")];
@@ -585,6 +723,7 @@ fn constants() -> Vec<(&'static str, usize)> {
     let file = |bytes: &[u8]| read(bytes, MOST_MONTHS, MOST_MONTHS);
     let length = |n| write(&vec![0; n], 1, &vec![0; n], usize::MAX).unwrap().len();
     let columns_length = |n| write_columns(&vec![0; n], 1, 1, &vec![0; n], usize::MAX).unwrap().len();
+    let sheet = |n, cell| sheet::bytes_of(1, &vec![cell; n]);
     let right = Lent::right_for(72);
     vec![
         ("VERSION_MAJOR", VERSION[0]),
@@ -603,6 +742,11 @@ fn constants() -> Vec<(&'static str, usize)> {
         ("LONGEST_FILE", length(MOST_MONTHS)),
         ("COLUMNS_LENGTH(71 + 1)", columns_length(72)),
         ("LONGEST_COLUMNS", columns_length(MOST_MONTHS)),
+        ("SHEET_LENGTH(71 + 1)", sheet(72, Cell::figure(0)).len()),
+        ("LONGEST_SHEET", sheet(MOST_MONTHS, Cell::figure(0)).len()),
+        ("KIND_GAP", Cell::gap().kind.into()),
+        ("KIND_FIGURE", Cell::figure(0).kind.into()),
+        ("KIND_REVISION", Cell::revision(0, 0).kind.into()),
         ("SUCCESS", 0),
         ("TOO_SHORT", number(series(71))),
         ("TOO_LONG", number(series(601))),
@@ -615,6 +759,9 @@ fn constants() -> Vec<(&'static str, usize)> {
         ("BAD_FILE_LENGTH", number(file(&[72, 0, 1, 12]))),
         ("WEIGHT_ABOVE", number(file(&bytes_of(&[0; 72], 1, 12, &[1001; 72])))),
         ("BAD_YEARS", number(write_columns(&[0; 72], 1, 0, &[0; 72], usize::MAX))),
+        ("BAD_CELL", number(read_sheet(&sheet(72, Cell { kind: 3, ..Cell::gap() }), 72))),
+        ("GAP", number(read_sheet(&sheet(72, Cell::gap()), 72))),
+        ("BAD_DOUBLE", number(read_sheet(&sheet(72, Cell::figure(200_001)), 72))),
     ]
 }
 
@@ -676,6 +823,8 @@ fn through_both_forms(file: &[u8], first_year: u16) -> (String, Vec<u8>) {
     let back = back.map(|(file, _)| file);
     let (number, size, place) = sized(&back);
     text += &format!("from_columns {number} {size} {told} {place}\n");
+    let total: i32 = figures.iter().skip(1).step_by(2).map(|figure| figure - 1).sum();
+    text += &format!("read_sheet 0 {} {start} {total} 0\nunlike 0\n", figures.len());
     (text, [file.to_vec(), written, forward, back.unwrap_or_default()].concat())
 }
 

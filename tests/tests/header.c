@@ -1,10 +1,11 @@
 /* Prints the constants of the header by name and the text of every refusal's number. Then it takes the plain desk file named on the command
    line, and the first year that follows, through the functions for both forms: reading and writing it again, writing its series by calendar
-   month and reading that, moving the file forward and back. It prints the answers, and then the bytes of the four files made, in this order.
-   callers.rs builds it as C and as C++. */
+   month and reading that, moving the file forward and back. It reads a members' sheet of the series too, every other month revised from 1 to
+   its figure. It prints the answers, and then the bytes of the four files made, in this order. callers.rs builds it as C and as C++. */
 #include <inttypes.h>
 #include <stdio.h>
 #include <stdlib.h>
+#include <string.h>
 #include "vepsjalm.h"
 
 #define SHOW(constant) printf("%s %ld\n", #constant, (long)(constant))
@@ -44,6 +45,11 @@ static void show_constants(void)
     SHOW(VEPSJALM_LONGEST_FILE);
     SHOW(VEPSJALM_COLUMNS_LENGTH(71 + 1));
     SHOW(VEPSJALM_LONGEST_COLUMNS);
+    SHOW(VEPSJALM_SHEET_LENGTH(71 + 1));
+    SHOW(VEPSJALM_LONGEST_SHEET);
+    SHOW(VEPSJALM_KIND_GAP);
+    SHOW(VEPSJALM_KIND_FIGURE);
+    SHOW(VEPSJALM_KIND_REVISION);
 }
 
 static void show_refusals(void)
@@ -60,6 +66,9 @@ static void show_refusals(void)
     SHOW(VEPSJALM_BAD_FILE_LENGTH);
     SHOW(VEPSJALM_WEIGHT_ABOVE);
     SHOW(VEPSJALM_BAD_YEARS);
+    SHOW(VEPSJALM_BAD_CELL);
+    SHOW(VEPSJALM_GAP);
+    SHOW(VEPSJALM_BAD_DOUBLE);
     for (int number = 0; number <= UINT8_MAX; number++)
         printf("%d %s\n", number, vepsjalm_refusal_text((uint8_t)number));
 }
@@ -104,6 +113,30 @@ static void there_and_back(uint16_t first_year)
     printf("from_columns %d %zu %d %zu\n", number, back.size, told, place);
 }
 
+/* The months of a series as a members' sheet, read into `to`. A double is stored as it stands in memory, low byte first here. */
+static void through_sheet(const struct series *from, struct series *to)
+{
+    static uint8_t sheet[VEPSJALM_LONGEST_SHEET];
+    size_t n = from->count, place;
+    sheet[0] = (uint8_t)(n % 256);
+    sheet[1] = (uint8_t)(n / 256);
+    sheet[2] = from->start;
+    for (size_t t = 0; t < n; t++) {
+        int revised = t % 2 == 1;
+        double cell[2] = {revised ? 1 : (double)from->figures[t], revised ? (double)from->figures[t] : 0};
+        sheet[3 + t] = revised ? VEPSJALM_KIND_REVISION : VEPSJALM_KIND_FIGURE;
+        memcpy(sheet + 3 + n + 16 * t, cell, sizeof cell);
+    }
+    double revision = -1;
+    int number = vepsjalm_read_sheet(
+        sheet, (size_t)VEPSJALM_SHEET_LENGTH(n), to->figures, VEPSJALM_MOST_MONTHS, &to->count, &to->start, &revision, &place);
+    printf("read_sheet %d %zu %d %.0f %zu\n", number, to->count, to->start, revision, place);
+    int unlike = 0;
+    for (size_t t = 0; t < to->count; t++)
+        unlike += to->figures[t] != from->figures[t];
+    printf("unlike %d\n", unlike);
+}
+
 static void show_bytes(const struct bytes *bytes)
 {
     fwrite(bytes->of, 1, bytes->size, stdout);
@@ -123,6 +156,7 @@ int main(int arguments, char **words)
     through_plain(&plain);
     through_columns(&plain, &by_month);
     there_and_back(plain.first_year);
+    through_sheet(&plain, &by_month);
     show_bytes(&again);
     show_bytes(&columns);
     show_bytes(&forward);
