@@ -1,6 +1,6 @@
-//! What the documents show, beside the separately written program and the repository: README's sample, METHOD's rows and those that are stored, the
-//! runs of its part 3.9, its flooded January, its lengths of the final trend, its seasonal filters and its month order, the wrong programs that
-//! CONTRACTS names.
+//! What the documents show, beside the separately written program and the repository: README's sample and its members' sheet, METHOD's rows
+//! and those that are stored, the runs of its part 3.9, its flooded January, its lengths of the final trend, its seasonal filters, its month
+//! order and its members' sheets, the wrong programs that CONTRACTS names.
 
 use separate::columns::{by_month, last_year};
 use separate::decompose::decompose_fitting;
@@ -12,6 +12,7 @@ use separate::pass::pass;
 use separate::print::printed;
 use separate::rows::{henderson_at, henderson_rows, three_by_five, three_by_nine, three_by_three, HendersonRows, ThreeByFive, ThreeByNine, LENGTHS};
 use separate::seasonality::{chosen, questions};
+use separate::sheet::{self, length_of, read_sheet, whole_in, Cell};
 use std::fs;
 use std::path::{Path, PathBuf};
 
@@ -234,6 +235,61 @@ fn method_has_month_order_and_years() {
     assert_eq!(last_year(3, years[0] as u16, years[1] as usize) as i128, years[2]);
     let refused = numbers(between(&method, "is not 1 to 9999 (7.5) | 0 | ", " |"));
     assert_eq!((last_year(2, refused[1] as u16, refused[0] as usize) as i128, refused[2]), (10_000, 10_000));
+}
+
+/// Without the commas inside numbers.
+fn without_commas(text: &str) -> String {
+    let next = text.chars().skip(1).chain([' ']);
+    text.chars().zip(next).filter(|(c, next)| *c != ',' || !next.is_ascii_digit()).map(|(c, _)| c).collect()
+}
+
+/// What METHOD says of members' sheets: their length, where doubles start, the doubles that do not count, and a total.
+#[test]
+fn method_has_members_sheets() {
+    let method = document("docs/METHOD.md");
+    let text = without_commas(between(&method, "**7.10 The members' sheet.**", "## 8"));
+    let sheet = text.as_str();
+    let lengths = numbers(between(sheet, "bytes in all: ", "."));
+    assert_eq!(lengths, [length_of(72) as i128, 72, length_of(600) as i128, 600]);
+    let cells: Vec<Cell> = (0..72).map(|t| Cell { kind: 200 + (t % 50) as u8, first: [t as u8; 8], second: [100 + t as u8; 8] }).collect();
+    let bytes = sheet::bytes_of(1, &cells);
+    for t in [0, 1, 71] {
+        assert_eq!((bytes[3 + t], &bytes[3 + 72 + 16 * t..][..8]), (cells[t].kind, &cells[t].first[..]));
+        assert_eq!(&bytes[3 + 72 + 16 * t + 8..][..8], &cells[t].second);
+    }
+    assert_eq!(numbers(between(sheet, "the last, which is ", ":")), [i128::from((-0f64).to_le_bytes()[7])]);
+    let refused = between(sheet, "outside does not count: not ", ", not the smallest");
+    let doubles: Vec<f64> = refused.replace(" or ", ", ").replace(" not ", " ").split(", ").map(|word| word.parse().expect("a double")).collect();
+    assert_eq!(doubles.len(), 4);
+    for double in doubles.iter().chain(&[f64::from_bits(1)]) {
+        assert_eq!(whole_in(double.to_le_bytes()), None, "{double}");
+    }
+    let revised = numbers(between(sheet, "Revisions from ", "give"));
+    let mut months: Vec<Cell> = revised.chunks(2).map(|pair| Cell::revision(pair[0] as i64, pair[1] as i64)).collect();
+    months.resize(72, Cell::figure(5));
+    let total = read_sheet(&sheet::bytes_of(1, &months), 72).expect("a series").total;
+    assert_eq!(numbers(between(sheet, " + 0 = ", ".")), [i128::from(total)]);
+}
+
+/// The bytes of the members' sheet that README shows.
+#[test]
+fn readme_shows_a_members_sheet() {
+    let readme = document("README.md");
+    let mut cells = vec![Cell::figure(100); 71];
+    cells.push(Cell::revision(90, 100));
+    let bytes = sheet::bytes_of(1, &cells);
+    let lines = between(&readme, "the last one revised from 90:\n\n", "\n\n");
+    let shown = |line: &str| -> Vec<u8> {
+        let (words, _) = line.trim().split_once("  ").expect("bytes and what they are");
+        words.split(' ').map(|byte| u8::from_str_radix(byte, 16).expect("a byte")).collect()
+    };
+    let at = [0, 3, 75, 83, 75 + 71 * 16, 83 + 71 * 16];
+    assert_eq!(lines.lines().count(), at.len());
+    for (line, place) in lines.lines().zip(at) {
+        assert!(bytes[place..].starts_with(&shown(line)), "{line}");
+    }
+    assert_eq!((bytes[3 + 70], bytes[3 + 71]), (1, 2));
+    assert_eq!(read_sheet(&bytes, 72).expect("a series").total, 10);
 }
 
 /// The edits of a crate's must-fail folder: crate/label, and whether a rule is edited.
