@@ -64,7 +64,7 @@
 /* The refusal sheet. The words of vepsjalm_refusal_text say when each number is the answer; n is the number of figures in decomposing and
    writing, the count of the file or the members' sheet in reading and moving. A file's header has 4 bytes, by calendar month 6 with the first
    year, and 6 bytes for each month follow; the sizes of a members' sheet have 3 bytes, and 17 for each month follow. The place is t of the
-   first such figure or weight for VEPSJALM_FIGURE_OUTSIDE and VEPSJALM_WEIGHT_ABOVE, and of the first bad cell for VEPSJALM_BAD_CELL,
+   first such figure or weight for VEPSJALM_FIGURE_OUTSIDE and VEPSJALM_WEIGHT_ABOVE, and of the first bad cell for VEPSJALM_MALFORMED_CELL,
    VEPSJALM_GAP and VEPSJALM_BAD_DOUBLE, where t is a month's place in the series, counted from 0; by calendar month too, wherever in the file
    it stands. It is 0 for all others.
 
@@ -91,7 +91,7 @@
 #define VEPSJALM_BAD_FILE_LENGTH 9
 #define VEPSJALM_WEIGHT_ABOVE 10
 #define VEPSJALM_BAD_YEARS 11
-#define VEPSJALM_BAD_CELL 12
+#define VEPSJALM_MALFORMED_CELL 12
 #define VEPSJALM_GAP 13
 #define VEPSJALM_BAD_DOUBLE 14
 
@@ -111,7 +111,7 @@ static inline const char *vepsjalm_refusal_text(uint8_t number)
     case VEPSJALM_BAD_FILE_LENGTH: return "the length of the file or sheet is not that of n months";
     case VEPSJALM_WEIGHT_ABOVE:    return "a weight above 1,000";
     case VEPSJALM_BAD_YEARS:       return "first year or year of the last month outside 1 to 9999";
-    case VEPSJALM_BAD_CELL:        return "an unknown kind, or an unused double with a byte that is not zero";
+    case VEPSJALM_MALFORMED_CELL:  return "an unknown kind, or an unused double with a byte that is not zero";
     case VEPSJALM_GAP:             return "a gap in the members' sheet";
     case VEPSJALM_BAD_DOUBLE:      return "a double that is no whole number within -200,000 to 200,000";
     default:                       return "no number of the refusal sheet";
@@ -249,12 +249,12 @@ uint8_t vepsjalm_from_columns(
                Nothing is stored before every cell is accepted
    count       set to n; 0 after a refusal
    start       set to the start month, 1 to 12; 0 after a refusal
-   revision    set to the total revision, new less old over all revisions: a whole number of units, exact, and never negative zero; positive zero
-               after a refusal
+   total       set to the total revision, new less old over all revisions: a whole number of units, exact, and never negative zero; positive
+               zero after a refusal
    place       set to the refusal's place; 0 after success */
 uint8_t vepsjalm_read_sheet(
     const uint8_t *sheet, size_t sheet_length, int32_t *figures, size_t figures_length,
-    size_t *count, uint8_t *start, double *revision, size_t *place);
+    size_t *count, uint8_t *start, double *total, size_t *place);
 
 #ifdef __cplusplus
 }

@@ -759,7 +759,7 @@ fn constants() -> Vec<(&'static str, usize)> {
         ("BAD_FILE_LENGTH", number(file(&[72, 0, 1, 12]))),
         ("WEIGHT_ABOVE", number(file(&bytes_of(&[0; 72], 1, 12, &[1001; 72])))),
         ("BAD_YEARS", number(write_columns(&[0; 72], 1, 0, &[0; 72], usize::MAX))),
-        ("BAD_CELL", number(read_sheet(&sheet(72, Cell { kind: 3, ..Cell::gap() }), 72))),
+        ("MALFORMED_CELL", number(read_sheet(&sheet(72, Cell { kind: 3, ..Cell::gap() }), 72))),
         ("GAP", number(read_sheet(&sheet(72, Cell::gap()), 72))),
         ("BAD_DOUBLE", number(read_sheet(&sheet(72, Cell::figure(200_001)), 72))),
     ]

@@ -66,7 +66,7 @@ static void show_refusals(void)
     SHOW(VEPSJALM_BAD_FILE_LENGTH);
     SHOW(VEPSJALM_WEIGHT_ABOVE);
     SHOW(VEPSJALM_BAD_YEARS);
-    SHOW(VEPSJALM_BAD_CELL);
+    SHOW(VEPSJALM_MALFORMED_CELL);
     SHOW(VEPSJALM_GAP);
     SHOW(VEPSJALM_BAD_DOUBLE);
     for (int number = 0; number <= UINT8_MAX; number++)

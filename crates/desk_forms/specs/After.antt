@@ -1,4 +1,4 @@
--- METHOD 7.2, 7.3, 7.7, 7.8 and 8.4: what a lent slice holds after an answer.
+-- METHOD 7.2, 7.3, 7.7, 7.8, 7.12 and 8.4: what a lent slice holds after an answer.
 use mathlib.Core.List.{List, _++_}
 use lib.ListN.{length, drop}
 use Rattle.refusals.specs.Sheet.{Answer, success, refusal}

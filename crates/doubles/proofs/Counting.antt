@@ -1,11 +1,11 @@
 -- Which doubles count, as the code finds out: by the whole part, and whether the double equals it.
 use mathlib.Core.Path.{_≡_, refl, sym, ap, _∙_, subst}
-use mathlib.Core.Bool.{Bool, true, false, not, cond, _&&_, _||_, Bool·beq}
-use Prim.Native.Nat.{ℕ, zero, suc, _+_, _-_, _*_, _/_, _%_, _<_, _≤_, min}
+use mathlib.Core.Bool.{Bool, true, false, _&&_, _||_, Bool·beq}
+use Prim.Native.Nat.{ℕ, zero, suc, _+_, _*_, _/_, _%_, _<_, _≤_, min}
 use native.Mathlib.Nat.{mul-one, mul-assoc, mul-right-comm, mul-pos, div-add-mod', eq-of-mul-eq-mul-right, zero-mul, le-div-iff-mul-le}
 use native.Mathlib.Omega.{arith}
 use borrow.Author.Tests.{ltb-true, ltb-false, lt-leb, le-leb, eqb-true, eqb-false, eq-eqb, ne-eqb}
-use lib.Dec.{ltb, leb, eqb}
+use lib.Dec.{leb, eqb}
 use lib.IntN.{ℤ, pos, negsuc, negℤ, natAbs}
 use lib.Signed.{ltZ}
 use mir.Syntax.{w32}
@@ -16,18 +16,14 @@ use lib.Ieee.Exact.{HasValue}
 use Rattle.integers.proofs.SizeLaws.{abs-neg}
 use Rattle.refusals.specs.Inside.{figureInside}
 use Rattle.refusals.specs.Limits.{largestFigure}
-use Rattle.refusals.proofs.InsideLaws.{figure-inside}
+use Rattle.refusals.proofs.InsideLaws.{both, figure-inside}
 use Rattle.doubles.specs.declared.AsFigure.the-variants.{Figure, Not}
 use Rattle.doubles.specs.Contracts.{figureOf}
 use Rattle.doubles.specs.Doubles.{isWhole, numberIn, counts, IsNumber}
 use Rattle.doubles.specs.Laws.{NamedDoubles}
-use Rattle.doubles.proofs.Exact.{no-true, signed, size-of, isNeg, value-of}
+use Rattle.doubles.proofs.Exact.{signed, size-of, isNeg, value-of}
 
 -- ---- a double that counts
-both : (a b : Bool) → (a && b) ≡ true → (a ≡ true) × (b ≡ true)
-both true b e = (refl, e)
-both false b e = absurd (no-true e)
-
 not-figure : {z : ℤ} → Not ≡ Figure z → ⊥
 not-figure e = let z : _≡_ {A = ℕ} 0 1 = cc in omega arith
 
@@ -69,7 +65,7 @@ fits32 (negsuc k) h = record { sfits = omega arith }
 -- ---- the doubles that METHOD 7.11 names
 pub named-doubles : NamedDoubles
 unfolding counts isWhole numberIn figureInside ofBits
-named-doubles = record { count = refl; numbers = refl; not = refl }
+named-doubles = record { count = refl; numbers = refl; others = refl }
 
 -- ---- where the whole part is far
 -- by sign, m and e

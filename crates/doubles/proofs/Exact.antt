@@ -1,21 +1,21 @@
 -- Sums and differences of doubles that are whole numbers are exact.
 use mathlib.Core.Path.{_≡_, refl, sym, ap, subst, _∙_}
-use mathlib.Core.Bool.{Bool, true, false, not, cond, _&&_, Bool·beq}
+use mathlib.Core.Bool.{Bool, true, false, not, cond, _&&_}
 use Prim.Native.Nat.{ℕ, zero, suc, _+_, _-_, _*_, _/_, _%_, _<_, _≤_, _^_}
 use native.Mathlib.Nat.{mul-one, mul-comm, mul-assoc, add-mul, mul-sub, mul-pos, mul-lt-mul-of-pos-right, mul-le-mul-right, mul-div-cancel, mul-mod-left, div-add-mod'}
 use native.Mathlib.Omega.{arith}
 use borrow.Author.Tests.{lt-ltb, le-ltb, ltb-true, ltb-false, eqb-true, eq-eqb}
 use lib.Dec.{ltb}
 use lib.IntN.{ℤ, pos, negsuc, negℤ, natAbs, _+ℤ_, _-ℤ_}
-use lib.Ieee.{Float, nan, inf, fin, Format, binary64, prec, up, down, round, sum, add, sub, neg, ofInt, ofBits}
+use lib.Ieee.{Float, nan, inf, fin, Format, binary64, up, down, round, sum, add, sub, neg, ofInt, ofBits}
 use lib.Ieee.Fits.{down-pos}
 use lib.Ieee.Exact.{HasValue}
 use lib.Ieee.Back.{round-whole}
 use lib.Ieee.Scale.{round-same}
-use Rattle.integers.proofs.Differences.{rep, ringℤ}
+use Rattle.integers.proofs.Differences.{ringℤ}
 use Rattle.integers.proofs.SizeLaws.{abs-neg}
 use Rattle.doubles.specs.Doubles.{isWhole, numberIn, IsNumber, doubleOf, positiveZero}
-use Rattle.doubles.specs.Laws.{DoubleExact, DifferenceExact, SumExact}
+use Rattle.doubles.specs.Laws.{DoubleExact, ZeroPositive, DifferenceExact, SumExact}
 
 -- ---- a sign and a size as a whole number
 abbrev pub signed : Bool → ℕ → ℤ
@@ -154,9 +154,13 @@ value-of (negsuc n) h = round-whole binary64 true (suc n) h
 pub double-exact : DoubleExact
 double-exact z h = subst (IsNumber (doubleOf z)) (signed-isNeg z) (is-number (doubleOf z) (isNeg z) (natAbs z) (value-of z h))
 
--- eight zero bytes are positive zero
+pub zero-positive : ZeroPositive
+unfolding ofInt
+zero-positive = refl
+
+-- eight zero bytes are positive zero too
 pub zero-bits : ofBits binary64 0 ≡ positiveZero
-unfolding ofBits ofInt
+unfolding ofBits
 zero-bits = refl
 
 neg-value : (x : Float) (s : Bool) (a : ℕ) → HasValue x s a 1 → HasValue (neg x) (not s) a 1

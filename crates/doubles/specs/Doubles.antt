@@ -35,14 +35,14 @@ numberIn (fin s m e) = cond s (negℤ (pos (m * up e / down e))) (pos (m * up e 
 unfoldable pub counts : Float → Bool
 counts x = isWhole x && figureInside (numberIn x)
 
--- METHOD 7.13: a double that is exactly this whole number
+-- METHOD 7.13: a double that is exactly this whole number (each of the two zeros is 0)
 pub record IsNumber (x : Float) (z : ℤ) : Type 0 where
   pub whole : isWhole x ≡ true
   pub number : numberIn x ≡ z
 
--- METHOD 7.13: the double of a whole number; of 0 it is positive zero, `fin false 0 (pos 0)`
+-- METHOD 7.13: the double of a whole number: the nearest one. Up to 2 ^ 53 in size it is that number exactly, and of 0 it is positive zero (Laws)
 abbrev pub doubleOf : ℤ → Float
 doubleOf z = ofInt binary64 z
 
 abbrev pub positiveZero : Float
-positiveZero = doubleOf (pos 0)
+positiveZero = fin false 0 (pos 0)

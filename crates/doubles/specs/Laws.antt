@@ -1,12 +1,12 @@
--- METHOD 7.11 and 7.13: the doubles that METHOD names, and what holds of doubles and whole numbers, whole; the names in brackets are those of the proofs,
--- in proofs/.
+-- METHOD 7.11 and 7.13: the doubles that METHOD names, and what holds of doubles and whole numbers, in full; the names in brackets are those of the
+-- proofs, in proofs/.
 use Prim.Native.Nat.{ℕ, _^_, _≤_}
 use mathlib.Core.Path.{_≡_}
 use mathlib.Core.Bool.{true, false}
 use mathlib.Core.List.{List, [], _∷_, map}
 use lib.IntN.{ℤ, pos, negsuc, natAbs, _+ℤ_, _-ℤ_}
 use lib.Ieee.{Float, binary64, add, sub, ofBits}
-use Rattle.doubles.specs.Doubles.{counts, numberIn, IsNumber, doubleOf}
+use Rattle.doubles.specs.Doubles.{counts, numberIn, IsNumber, doubleOf, positiveZero}
 
 -- METHOD 7.11: doubles that count, by their bits, and which number each is: both zeros, 1, -7, 199,999 and both limits (`negsuc k` is the number -1 - k)
 abbrev pub counting : List ℕ
@@ -30,17 +30,22 @@ notCounting =
 pub record NamedDoubles : Type 0 where
   pub count : map (λ bits. counts (ofBits binary64 bits)) counting ≡ true ∷ true ∷ true ∷ true ∷ true ∷ true ∷ true ∷ []
   pub numbers : map (λ bits. numberIn (ofBits binary64 bits)) counting ≡ theirNumbers
-  pub not : map (λ bits. counts (ofBits binary64 bits)) notCounting
+  pub others : map (λ bits. counts (ofBits binary64 bits)) notCounting
       ≡ false ∷ false ∷ false ∷ false ∷ false ∷ false ∷ false ∷ false ∷ false ∷ false ∷ false ∷ false ∷ false ∷ false ∷ false ∷ []
 
 -- METHOD 7.13: the double of a whole number up to 2 ^ 53 in size is exactly that number (Exact.double-exact)
 abbrev pub DoubleExact : Type 0
 DoubleExact = (z : ℤ) → natAbs z ≤ 2 ^ 53 → IsNumber (doubleOf z) z
 
--- the difference of two doubles that are whole numbers is exactly the difference of the numbers, up to these sizes (Exact.difference-exact)
+-- and that of 0 is positive zero (Exact.zero-positive)
+abbrev pub ZeroPositive : Type 0
+ZeroPositive = doubleOf (pos 0) ≡ positiveZero
+
+-- where two doubles are whole numbers up to 2 ^ 52 in size, their difference in doubles is exactly the difference of the numbers (Exact.difference-exact)
 abbrev pub DifferenceExact : Type 0
 DifferenceExact = (x y : Float) (a b : ℤ) → natAbs a ≤ 2 ^ 52 → natAbs b ≤ 2 ^ 52 → IsNumber x a → IsNumber y b → IsNumber (sub binary64 x y) (a -ℤ b)
 
--- the sum of the double of a whole number and of a double that is one is the double of the sum: zero is positive (Exact.sum-exact)
+-- the double of a, up to 2 ^ 53 in size, and a double that is a whole number b: their sum in doubles is the double of a + b, which is exact up to 2 ^ 53
+-- (DoubleExact), and positive zero where a + b is 0, whichever zero b is (Exact.sum-exact)
 abbrev pub SumExact : Type 0
 SumExact = (a b : ℤ) (y : Float) → natAbs a ≤ 2 ^ 53 → IsNumber y b → add binary64 (doubleOf a) y ≡ doubleOf (a +ℤ b)

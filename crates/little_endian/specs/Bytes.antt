@@ -1,4 +1,4 @@
--- METHOD 7.1: numbers in bytes, low byte first.
+-- METHOD 7.1 and 7.10: numbers in bytes, low byte first.
 use Prim.Native.Nat.{ℕ, zero, suc, _+_, _-_, _*_, _/_, _%_, _^_, _<_}
 use mathlib.Core.Path.{_≡_}
 use mathlib.Core.Bool.{cond}

@@ -1,11 +1,12 @@
 -- METHOD 7.12 and 7.13: the series that an accepted members' sheet means, and its total revision, as an exact whole number and as it is summed in doubles.
-use Prim.Native.Nat.{ℕ, zero, suc, _*_, _≤_}
+use Prim.Native.Nat.{ℕ, zero, suc, _*_, _≤_, _<_}
 use mathlib.Core.Path.{_≡_}
 use mathlib.Core.List.{List}
 use lib.IntN.{ℤ, natAbs}
 use lib.Ieee.{Float}
 use Rattle.integers.specs.Lists.{tab}
 use Rattle.integers.specs.Sums.{sumZ}
+use Rattle.refusals.specs.Limits.{mostMonths, largestFigure}
 use Rattle.desk_forms.specs.Header.{countIn}
 use Rattle.doubles.specs.Doubles.{numberIn, IsNumber, doubleOf, positiveZero}
 use Rattle.sheet_cells.specs.Cells.{cellAt, newest, revision, difference, revisedBy}
@@ -26,10 +27,17 @@ unfoldable pub summed : List ℕ → ℕ → Float
 summed sheet zero = positiveZero
 summed sheet (suc t) = revisedBy (summed sheet t) (cellAt sheet t)
 
--- METHOD 7.13: the step at month t loses nothing. The difference in doubles is exactly new less old; the sum after it is the double of the exact
--- sum, which is at most 600 * 400,000 in size, and is exactly that sum
+-- METHOD 7.13: the step at month t loses nothing. The difference in doubles is exactly new less old; the sum after it is the double of the exact sum, and
+-- exactly that sum. Sizes: at most 2 * 200,000, and 600 times that
 pub record StepExact (sheet : List ℕ) (t : ℕ) : Type 0 where
+  pub difference-size : natAbs (revision (cellAt sheet t)) ≤ 2 * largestFigure
   pub difference-exact : IsNumber (difference (cellAt sheet t)) (revision (cellAt sheet t))
-  pub sum-size : natAbs (revisionOfFirst sheet (suc t)) ≤ 600 * 400_000
+  pub sum-size : natAbs (revisionOfFirst sheet (suc t)) ≤ mostMonths * (2 * largestFigure)
   pub sum-double : summed sheet (suc t) ≡ doubleOf (revisionOfFirst sheet (suc t))
   pub sum-exact : IsNumber (summed sheet (suc t)) (revisionOfFirst sheet (suc t))
+
+-- METHOD 7.13: the total of an accepted sheet: it is what is summed in doubles, it is exactly the total revision, and no step lost anything
+pub record TotalExact (sheet : List ℕ) (total : Float) : Type 0 where
+  pub in-doubles : total ≡ summed sheet (countIn sheet)
+  pub exact : IsNumber total (totalRevision sheet)
+  pub steps : (t : ℕ) → t < countIn sheet → StepExact sheet t

@@ -2,15 +2,15 @@
 use crate::SheetChecked;
 use refusals::Refusal;
 use refusals::Verdict;
-ghost use Rattle.sheet_cells.specs.Contracts.{Lies};
-ghost use Rattle.members_sheet.specs.Contracts.{CellsSay, SheetSays};
+ghost use Rattle.sheet_cells.specs.Contracts.{HasCells};
+ghost use Rattle.members_sheet.specs.Contracts.{CellsSay, CheckedSays};
 
 // Bytes of a month: its kind and its cell.
 const MONTH: usize = 1 + sheet_cells::CELL;
 
 // Rows 12 to 14 of all cells, in order of t.
 fn check_cells(sheet: &[u8], n: usize) -> Verdict
-    requires { ⌜ Lies (now sheet) n ⌝ }
+    requires { ⌜ HasCells (now sheet) n ⌝ }
     ensures { λ r. ⌜ CellsSay (now (sheet .entry)) n r ⌝ }
 {
     let mut t = 0;
@@ -26,7 +26,7 @@ fn check_cells(sheet: &[u8], n: usize) -> Verdict
 
 // Rows 7, 1, 2, 3, 9 and 4, and those of the cells; the slice for the figures comes in by its length.
 pub fn check_sheet(sheet: &[u8], room: usize) -> SheetChecked
-    ensures { λ r. ⌜ SheetSays (now (sheet .entry)) room r ⌝ }
+    ensures { λ r. ⌜ CheckedSays (now (sheet .entry)) room r ⌝ }
 {
     if sheet.len() < sheet_cells::SIZES {
         return SheetChecked::Refused(Refusal::NoHeader);

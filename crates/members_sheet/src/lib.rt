@@ -13,11 +13,7 @@ pub enum SheetChecked {
 
 // What reading answers: the months, the start month and the total revision of the series, or why the sheet is refused.
 pub enum SheetReading {
-    Series {
-        count: usize,
-        start: u8,
-        revision: f64,
-    },
+    Series { count: usize, start: u8, total: f64 },
     Refused(Refusal),
 }
 
@@ -29,11 +25,11 @@ pub fn read_sheet(sheet: &[u8], figures: &mut [i32]) -> SheetReading
         SheetChecked::Refused(refusal) => SheetReading::Refused(refusal),
         SheetChecked::Fits { count, start } => {
             filling::fill(sheet, count, figures);
-            let revision = filling::total_revision(sheet, count);
+            let total = filling::total_revision(sheet, count);
             SheetReading::Series {
                 count,
                 start,
-                revision,
+                total,
             }
         }
     }

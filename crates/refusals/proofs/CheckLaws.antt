@@ -8,6 +8,7 @@ use native.Mathlib.Omega.{arith}
 use borrow.Author.Tests.{le-ltb}
 use lib.ListN.{length, drop}
 use Rattle.refusals.specs.declared.Refusal.{Refusal}
+use Rattle.refusals.specs.declared.Refusal.the-variants.{TooShort, TooLong, BadStart, WrongLength, FigureOutside, EmptyGroup, NoHeader, BadPeriod, BadFileLength, WeightAbove, BadYears, MalformedCell, Gap, BadDouble}
 use Rattle.refusals.specs.declared.Found.{Found}
 use Rattle.refusals.specs.declared.Found.the-variants.{At, Nowhere}
 use Rattle.refusals.specs.Sheet.{row, Answer, success, refusal, refusalOf}
@@ -137,3 +138,20 @@ span-number {q} n start s = span-at n start (s .at) (row q .number) (row q .plac
 
 pub span-passed : {n start : ℕ} → SpanFits n start → Before 3 (spanChecks n start)
 span-passed h = le-ltb _ _ (h .least) & le-ltb _ _ (h .most) & ap not (h .inside) & tt
+
+-- ---- no row of the sheet has the number 0, which is success in other languages
+pub row-not-zero : (q : Refusal) → row q .number ≡ 0 → ⊥
+row-not-zero TooShort e = omega arith
+row-not-zero TooLong e = omega arith
+row-not-zero BadStart e = omega arith
+row-not-zero WrongLength e = omega arith
+row-not-zero (FigureOutside t) e = omega arith
+row-not-zero EmptyGroup e = omega arith
+row-not-zero NoHeader e = omega arith
+row-not-zero BadPeriod e = omega arith
+row-not-zero BadFileLength e = omega arith
+row-not-zero (WeightAbove t) e = omega arith
+row-not-zero BadYears e = omega arith
+row-not-zero (MalformedCell t) e = omega arith
+row-not-zero (Gap t) e = omega arith
+row-not-zero (BadDouble t) e = omega arith

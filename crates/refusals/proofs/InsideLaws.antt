@@ -18,7 +18,7 @@ above a n = by (leb n a) refl
     by true e = rw (e, le-ltb a n (leb-true n a e))
     by false e = rw (e, lt-ltb a n (leb-false n a e))
 
-both : (a b : Bool) → (a && b) ≡ true → (a ≡ true) × (b ≡ true)
+pub both : (a b : Bool) → (a && b) ≡ true → (a ≡ true) × (b ≡ true)
 both true b e = (refl, e)
 both false b e = (e, cc)
 

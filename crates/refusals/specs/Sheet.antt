@@ -2,7 +2,7 @@
 -- what the program answers is turned into that by `refusalOf`.
 use Prim.Native.Nat.{ℕ}
 use Rattle.refusals.specs.declared.Refusal.{Refusal}
-use Rattle.refusals.specs.declared.Refusal.the-variants.{TooShort, TooLong, BadStart, WrongLength, FigureOutside, EmptyGroup, NoHeader, BadPeriod, BadFileLength, WeightAbove, BadYears, BadCell, Gap, BadDouble}
+use Rattle.refusals.specs.declared.Refusal.the-variants.{TooShort, TooLong, BadStart, WrongLength, FigureOutside, EmptyGroup, NoHeader, BadPeriod, BadFileLength, WeightAbove, BadYears, MalformedCell, Gap, BadDouble}
 
 pub record Row : Type 0 where
   pub number : ℕ
@@ -24,17 +24,17 @@ row (FigureOutside t) = numbered 5 t
 row EmptyGroup = numbered 6 0
 -- a file has fewer than 4 bytes, by calendar month fewer than 6; a members' sheet fewer than 3
 row NoHeader = numbered 7 0
--- its period is not 12
+-- a file's period is not 12
 row BadPeriod = numbered 8 0
--- its length is not 4 + 6n bytes, by calendar month 6 + 6n; that of a members' sheet not 3 + 17n
+-- a file's length is not 4 + 6n bytes, by calendar month 6 + 6n; that of a members' sheet not 3 + 17n
 row BadFileLength = numbered 9 0
 -- a weight is above 1,000, the first of them at t
 row (WeightAbove t) = numbered 10 t
 -- the first year or the year of the last month is not 1 to 9999
 row BadYears = numbered 11 0
--- the first bad cell of a members' sheet is at t: its kind is unknown or an unused double of it has a byte that is not zero; it is a gap; a double of
--- it does not count
-row (BadCell t) = numbered 12 t
+-- the first bad cell of a members' sheet is at t: its kind is unknown or an unused double of it has a byte that is not zero; else it is a gap; else a
+-- double of it does not count
+row (MalformedCell t) = numbered 12 t
 row (Gap t) = numbered 13 t
 row (BadDouble t) = numbered 14 t
 

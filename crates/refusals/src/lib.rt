@@ -43,7 +43,7 @@ pub enum Refusal {
     BadFileLength,
     WeightAbove(usize),
     BadYears,
-    BadCell(usize),
+    MalformedCell(usize),
     Gap(usize),
     BadDouble(usize),
 }
@@ -64,7 +64,7 @@ pub fn number(r: Refusal) -> u8
         Refusal::BadFileLength => 9,
         Refusal::WeightAbove(_) => 10,
         Refusal::BadYears => 11,
-        Refusal::BadCell(_) => 12,
+        Refusal::MalformedCell(_) => 12,
         Refusal::Gap(_) => 13,
         Refusal::BadDouble(_) => 14,
     }
@@ -86,7 +86,7 @@ pub fn place(r: Refusal) -> usize
         Refusal::BadFileLength => 0,
         Refusal::WeightAbove(t) => t,
         Refusal::BadYears => 0,
-        Refusal::BadCell(t) => t,
+        Refusal::MalformedCell(t) => t,
         Refusal::Gap(t) => t,
         Refusal::BadDouble(t) => t,
     }

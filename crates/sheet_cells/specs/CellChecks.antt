@@ -6,24 +6,24 @@ use Rattle.refusals.specs.Checks.{Check}
 use Rattle.doubles.specs.Doubles.{counts}
 use Rattle.sheet_cells.specs.declared.Cell.the-variants.{Gap, Figure, Revision}
 use Rattle.sheet_cells.specs.declared.CellRead.{CellRead}
-use Rattle.sheet_cells.specs.declared.CellRead.the-variants.{Known, Bad}
+use Rattle.sheet_cells.specs.declared.CellRead.the-variants.{Known, Malformed}
 use Rattle.sheet_cells.specs.Cells.{cellAt}
 
 -- 12: an unknown kind, or an unused double with a byte that is not zero
-abbrev pub isBad : CellRead → Bool
-isBad Bad = true
-isBad (Known cell) = false
+abbrev pub isMalformed : CellRead → Bool
+isMalformed Malformed = true
+isMalformed (Known cell) = false
 
 -- 13: a gap
 abbrev pub isGap : CellRead → Bool
-isGap Bad = false
+isGap Malformed = false
 isGap (Known Gap) = true
 isGap (Known (Figure figure)) = false
 isGap (Known (Revision old new)) = false
 
 -- 14, where this is false: every double that the cell uses counts, both of a revision
 abbrev pub allCount : CellRead → Bool
-allCount Bad = true
+allCount Malformed = true
 allCount (Known Gap) = true
 allCount (Known (Figure figure)) = counts figure
 allCount (Known (Revision old new)) = counts old && counts new
@@ -31,7 +31,7 @@ allCount (Known (Revision old new)) = counts old && counts new
 -- in this order; the place of each is the cell's t
 abbrev pub checksOf : CellRead → ℕ → List Check
 checksOf cell t =
-    record { number = 12; applies = isBad cell; place = t }
+    record { number = 12; applies = isMalformed cell; place = t }
     ∷ record { number = 13; applies = isGap cell; place = t }
     ∷ record { number = 14; applies = not (allCount cell); place = t }
     ∷ []

@@ -6,7 +6,7 @@ ghost use mathlib.Core.Path.{_≡_};
 ghost use Prim.Native.Nat.{_<_};
 ghost use Rattle.sheet_cells.specs.Cells.{cellAt, newest, revisedBy};
 ghost use Rattle.sheet_cells.specs.CellChecks.{cellChecks};
-ghost use Rattle.sheet_cells.specs.Contracts.{Lies, acceptance, Says};
+ghost use Rattle.sheet_cells.specs.Contracts.{HasCells, Says, acceptance, withMonth};
 
 // Bytes of the sizes, and of a cell.
 pub const SIZES: usize = 3;
@@ -20,10 +20,10 @@ pub enum Cell {
     Revision(f64, f64),
 }
 
-// A cell that was read; a bad one has an unknown kind, or an unused double with a byte that is not zero.
+// A cell that was read; a malformed one has an unknown kind, or an unused double with a byte that is not zero.
 pub enum CellRead {
     Known(Cell),
-    Bad,
+    Malformed,
 }
 
 // A month's number and a double of it, together until the sheet is accepted.
@@ -41,7 +41,7 @@ const REVISION: u8 = 2;
 
 // The cell of month t.
 pub fn cell_at(sheet: &[u8], n: usize, t: usize) -> CellRead
-    requires { ⌜ Lies (now sheet) n × (t < n) ⌝ }
+    requires { ⌜ HasCells (now sheet) n × (t < n) ⌝ }
     ensures { λ r. ⌜ r ≡ cellAt (now (sheet .entry)) t ⌝ }
 {
     let kind = sheet[SIZES + t];
@@ -53,7 +53,7 @@ pub fn cell_at(sheet: &[u8], n: usize, t: usize) -> CellRead
         return CellRead::Known(Cell::Revision(old, new));
     }
     if !doubles::unused_at(sheet, second) {
-        return CellRead::Bad;
+        return CellRead::Malformed;
     }
     if kind == FIGURE {
         return CellRead::Known(Cell::Figure(doubles::double_at(sheet, first)));
@@ -63,7 +63,7 @@ pub fn cell_at(sheet: &[u8], n: usize, t: usize) -> CellRead
             return CellRead::Known(Cell::Gap);
         }
     }
-    CellRead::Bad
+    CellRead::Malformed
 }
 
 // Row 14 of one double, with the number of its month.
@@ -78,11 +78,11 @@ fn accept(imported: Imported) -> Verdict
 
 // Rows 12 to 14 of the cell of month t.
 pub fn check_cell(sheet: &[u8], n: usize, t: usize) -> Verdict
-    requires { ⌜ Lies (now sheet) n × (t < n) ⌝ }
+    requires { ⌜ HasCells (now sheet) n × (t < n) ⌝ }
     ensures { λ r. ⌜ Says (cellChecks (now (sheet .entry)) t) r ⌝ }
 {
     let CellRead::Known(cell) = cell_at(sheet, n, t) else {
-        return Verdict::Refused(Refusal::BadCell(t));
+        return Verdict::Refused(Refusal::MalformedCell(t));
     };
     match cell {
         Cell::Gap => Verdict::Refused(Refusal::Gap(t)),
@@ -105,7 +105,7 @@ pub fn check_cell(sheet: &[u8], n: usize, t: usize) -> Verdict
 
 // What a cell brings in for month t: its figure, the new one of a revision. (Nothing is stored of a cell that is refused.)
 pub fn import(cell: CellRead, t: usize) -> Imported
-    ensures { λ r. ⌜ (r .month ≡ t) × (r .double ≡ newest cell) ⌝ }
+    ensures { λ r. ⌜ r ≡ withMonth t (newest cell) ⌝ }
 {
     let CellRead::Known(known) = cell else {
         return Imported {

@@ -8,28 +8,28 @@ pub fn read_sheet(
     figures: &mut [i32],
     count: &mut usize,
     start: &mut u8,
-    revision: &mut f64,
+    total: &mut f64,
     place: &mut usize,
 ) -> u8
     ensures { λ r. ⌜ SheetNumbers (now (sheet .entry)) (now (figures .entry))
-        r (now (count .exit)) (now (start .exit)) (now (revision .exit)) (now (place .exit)) (now (figures .exit)) ⌝ }
+        r (now (count .exit)) (now (start .exit)) (now (total .exit)) (now (place .exit)) (now (figures .exit)) ⌝ }
 {
     match members_sheet::read_sheet(sheet, figures) {
         SheetReading::Series {
             count: n,
             start: first,
-            revision: total,
+            total: sum,
         } => {
             *count = n;
             *start = first;
-            *revision = total;
+            *total = sum;
             *place = 0;
             0
         }
         SheetReading::Refused(refusal) => {
             *count = 0;
             *start = 0;
-            *revision = 0.0;
+            *total = 0.0;
             *place = refusals::place(refusal);
             refusals::number(refusal)
         }

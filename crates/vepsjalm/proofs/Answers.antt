@@ -2,33 +2,15 @@
 use mathlib.Core.Path.{_≡_, sym, ap, _∙_}
 use mathlib.Core.List.{List}
 use Prim.Native.Nat.{ℕ}
-use native.Mathlib.Omega.{arith}
 use lib.IntN.{ℤ}
 use Rattle.refusals.specs.Sheet.{row}
 use Rattle.refusals.specs.Numbers.{numberOf, placeOf}
 use Rattle.refusals.specs.declared.Refusal.{Refusal}
-use Rattle.refusals.specs.declared.Refusal.the-variants.{TooShort, TooLong, BadStart, WrongLength, FigureOutside, EmptyGroup, NoHeader, BadPeriod, BadFileLength, WeightAbove, BadYears, BadCell, Gap, BadDouble}
+use Rattle.refusals.proofs.CheckLaws.{row-not-zero}
 use Rattle.decompose.specs.Promise as tables
 use Rattle.decompose.specs.declared.Decomposed.{Decomposed}
 use Rattle.decompose.specs.declared.Decomposed.the-variants as decomposed
 use Rattle.vepsjalm.specs.Numbers.{DecomposeNumbers}
-
--- no row of the sheet has the number 0
-numbers : (q : Refusal) → row q .number ≡ 0 → ⊥
-numbers TooShort e = omega arith
-numbers TooLong e = omega arith
-numbers BadStart e = omega arith
-numbers WrongLength e = omega arith
-numbers (FigureOutside t) e = omega arith
-numbers EmptyGroup e = omega arith
-numbers NoHeader e = omega arith
-numbers BadPeriod e = omega arith
-numbers BadFileLength e = omega arith
-numbers (WeightAbove t) e = omega arith
-numbers BadYears e = omega arith
-numbers (BadCell t) e = omega arith
-numbers (Gap t) e = omega arith
-numbers (BadDouble t) e = omega arith
 
 module _ {start : ℕ} {f : List ℤ} {lent left : tables.Slices} {r : Decomposed} (p : tables.Promise start f lent r left) where
   pub has-tables : r ≡ decomposed.Tables → DecomposeNumbers start f lent 0 0 left
@@ -37,4 +19,4 @@ module _ {start : ℕ} {f : List ℤ} {lent left : tables.Slices} {r : Decompose
 
   pub not-tables : {q : Refusal} {k t : ℕ} → r ≡ decomposed.Refused q → k ≡ row q .number → t ≡ row q .place → DecomposeNumbers start f lent k t left
   not-tables {q} e i j = let s = ap tables.says (sym e) ∙ p .answered in
-      record { number-is = i ∙ ap numberOf s; place-is = j ∙ ap placeOf s; slices = p .slices; near = λ z. absurd (numbers q (sym i ∙ z)); passes = p .passes }
+      record { number-is = i ∙ ap numberOf s; place-is = j ∙ ap placeOf s; slices = p .slices; near = λ z. absurd (row-not-zero q (sym i ∙ z)); passes = p .passes }

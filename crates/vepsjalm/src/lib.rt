@@ -127,11 +127,11 @@ pub extern "C" fn vepsjalm_read_sheet(
     figures: &mut [i32],
     count: &mut usize,
     start: &mut u8,
-    revision: &mut f64,
+    total: &mut f64,
     place: &mut usize,
 ) -> u8
     ensures { λ r. ⌜ SheetNumbers (now (sheet .entry)) (now (figures .entry))
-        r (now (count .exit)) (now (start .exit)) (now (revision .exit)) (now (place .exit)) (now (figures .exit)) ⌝ }
+        r (now (count .exit)) (now (start .exit)) (now (total .exit)) (now (place .exit)) (now (figures .exit)) ⌝ }
 {
-    sheet_numbers::read_sheet(sheet, figures, count, start, revision, place)
+    sheet_numbers::read_sheet(sheet, figures, count, start, total, place)
 }

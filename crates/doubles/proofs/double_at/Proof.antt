@@ -1,6 +1,6 @@
 -- `doubles::double_at` meets its contract: the double of the number that the bytes make.
 -- Assumes nothing.
-use mathlib.Core.Path.{_≡_, ap, _∙_}
+use mathlib.Core.Path.{ap, _∙_}
 use borrow.Author.Needs.{needs}
 use lib.Ieee.{binary64, ofBits}
 use Rattle.doubles.specs.Doubles.{doubleAt}

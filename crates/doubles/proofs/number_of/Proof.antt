@@ -6,7 +6,7 @@ use borrow.Author.Needs.{needs}
 use lib.IntN.{ℤ, pos}
 use lib.Ieee.{Float}
 use mir.Syntax.{w32}
-use mir.Val.{toZ, ofZ, SFits}
+use mir.Val.{SFits}
 use mir.ValLaws.{toZ-ofZ}
 use Rattle.doubles.specs.declared.AsFigure.{AsFigure}
 use Rattle.doubles.specs.declared.AsFigure.the-variants.{Figure, Not}

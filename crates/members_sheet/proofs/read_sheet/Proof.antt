@@ -4,14 +4,14 @@ use mathlib.Core.Path.{_≡_, refl, subst}
 use borrow.Author.Needs.{needs}
 use lib.ListN.{length}
 use Rattle.members_sheet.specs.declared.SheetChecked.{SheetChecked}
-use Rattle.members_sheet.specs.Contracts.{SheetFits, SheetSays}
+use Rattle.members_sheet.specs.Contracts.{SheetFits, CheckedSays}
 use Rattle.members_sheet.proofs.Answers.{refused, accepted}
 use Rattle.members_sheet.proofs.read_sheet.Statement.{statement}
 use Rattle.members_sheet.proofs.read_sheet.Tie as tie
 
 -- what the checks found
-found : (c : tie.After-check-sheet) {v : SheetChecked} → c .check-sheet .result ≡ v → let s = c .before .before in SheetSays (s .args .sheet .now) (length (s .args .figures .now)) v
-found c e = let s = c .before .before in subst (λ (v : SheetChecked). SheetSays (s .args .sheet .now) (length (s .args .figures .now)) v) e (c .check-sheet .ensures)
+found : (c : tie.After-check-sheet) {v : SheetChecked} → c .check-sheet .result ≡ v → let s = c .before .before in CheckedSays (s .args .sheet .now) (length (s .args .figures .now)) v
+found c e = let s = c .before .before in subst (λ (v : SheetChecked). CheckedSays (s .args .sheet .now) (length (s .args .figures .now)) v) e (c .check-sheet .ensures)
 
 fits : (c : tie.After-count) → let s = c .before .before .before .before in SheetFits (s .args .sheet .now) (length (s .args .figures .now)) (c .count .given .0 .0) (c .count .given .0 .1 .0)
 fits c = found (c .before .before) (c .count .given .1)
@@ -26,10 +26,10 @@ enum-known-count : tie.Need-enum-known-count
 enum-known-count c = search needs
 
 fill-requires : tie.Need-fill-requires
-fill-requires c κs = let f = fits (c .before .before) in (f .lies, f .taken, f .enough)
+fill-requires c κs = let f = fits (c .before .before) in (f .hasCells, f .taken, f .enough)
 
 total-revision-requires : tie.Need-total-revision-requires
-total-revision-requires c κs = fits (c .before .before .before .before) .lies
+total-revision-requires c κs = fits (c .before .before .before .before) .hasCells
 
 returns : tie.Need-returns
 returns c = refused (found (c .before .before .before) (c .before .refusal .given .1)) refl

@@ -1,6 +1,6 @@
 -- `sheet_cells::accept` meets its contract: a double that counts has a figure.
 -- Assumes nothing.
-use mathlib.Core.Path.{_≡_, sym, _∙_}
+use mathlib.Core.Path.{sym, _∙_}
 use borrow.Author.Needs.{needs}
 use Rattle.doubles.proofs.Counting.{counted, not-counted}
 use Rattle.sheet_cells.proofs.CellLaws.{accepted, not-accepted}

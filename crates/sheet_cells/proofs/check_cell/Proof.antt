@@ -2,7 +2,7 @@
 -- Assumes nothing.
 use mathlib.Core.Path.{_≡_, sym, ap, subst, _∙_}
 use borrow.Author.Needs.{needs}
-use Rattle.refusals.specs.declared.Refusal.the-variants.{BadCell}
+use Rattle.refusals.specs.declared.Refusal.the-variants.{MalformedCell}
 use Rattle.refusals.specs.declared.Refusal.the-variants as refusal
 use Rattle.refusals.specs.declared.Verdict.{Verdict}
 use Rattle.refusals.specs.Contracts.{Stopped}
@@ -11,7 +11,7 @@ use Rattle.sheet_cells.specs.declared.CellRead.the-variants.{Known}
 use Rattle.sheet_cells.specs.Cells.{cellAt}
 use Rattle.sheet_cells.specs.CellChecks.{checksOf}
 use Rattle.sheet_cells.specs.Contracts.{Says}
-use Rattle.sheet_cells.proofs.CellLaws.{bad-says, gap-says, figure-says, old-says, new-says}
+use Rattle.sheet_cells.proofs.CellLaws.{malformed-says, gap-says, figure-says, old-says, new-says}
 use Rattle.sheet_cells.proofs.check_cell.Statement.{statement}
 use Rattle.sheet_cells.proofs.check_cell.Tie as tie
 
@@ -40,7 +40,7 @@ enum-told : tie.Need-enum-told
 enum-told c = search needs
 
 returns : tie.Need-returns
-returns c = let r = c .before .before in subst (λ (x : CellRead). Stopped (BadCell (from r .args .t)) (checksOf x (from r .args .t))) (sym (is r (c .enum-told .given .1))) (bad-says (from r .args .t))
+returns c = let r = c .before .before in subst (λ (x : CellRead). Stopped (MalformedCell (from r .args .t)) (checksOf x (from r .args .t))) (sym (is r (c .enum-told .given .1))) (malformed-says (from r .args .t))
 
 enum-told-2 : tie.Need-enum-told-2
 enum-told-2 c = search needs

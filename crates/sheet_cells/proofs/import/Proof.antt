@@ -1,10 +1,11 @@
 -- `sheet_cells::import` meets its contract: the figure of a cell, the new one of a revision.
 -- Assumes nothing.
-use mathlib.Core.Path.{_≡_, refl, sym, ap, _∙_}
+use mathlib.Core.Path.{sym, ap, _∙_}
 use borrow.Author.Needs.{needs}
 use Rattle.doubles.proofs.Exact.{zero-bits}
 use Rattle.sheet_cells.specs.declared.CellRead.the-variants.{Known}
 use Rattle.sheet_cells.specs.Cells.{newest}
+use Rattle.sheet_cells.specs.Contracts.{withMonth}
 use Rattle.sheet_cells.proofs.import.Statement.{statement}
 use Rattle.sheet_cells.proofs.import.Tie as tie
 
@@ -15,7 +16,7 @@ enum-told : tie.Need-enum-told
 enum-told c = search needs
 
 returns : tie.Need-returns
-returns c = (refl, zero-bits ∙ ap newest (sym (c .enum-told .given .1)))
+returns c = ap (withMonth _) (zero-bits ∙ ap newest (sym (c .enum-told .given .1)))
 
 enum-told-2 : tie.Need-enum-told-2
 enum-told-2 c = search needs
@@ -27,13 +28,19 @@ enum-known-known-2 : tie.Need-enum-known-known-2
 enum-known-known-2 c = search needs
 
 returns-2 : tie.Need-returns-2
-returns-2 c = (refl, zero-bits ∙ ap newest (sym (c .before .before .before .cell .given .1 ∙ ap Known (c .enum-told2 .given .1))))
+returns-2 c = ap (withMonth _) (zero-bits ∙ ap newest (sym (c .before .before .before .cell .given .1 ∙ ap Known (c .enum-told2 .given .1))))
 
 returns-3 : tie.Need-returns-3
-returns-3 c = search needs
+returns-3 c =
+    let k = c .before in
+    let w = k .before .before .before in
+    ap (withMonth _) (ap newest (sym (w .cell .given .1 ∙ ap Known (k .known .given .1))))
 
 returns-4 : tie.Need-returns-4
-returns-4 c = search needs
+returns-4 c =
+    let k = c .before in
+    let w = k .before .before .before in
+    ap (withMonth _) (ap newest (sym (w .cell .given .1 ∙ ap Known (k .known2 .given .1))))
 
 pub import-spec : {M : Type 1} → statement M
 import-spec =

@@ -1,6 +1,6 @@
 -- `sheet_cells::revised` meets its contract: a revision adds new less old, any other cell nothing.
 -- Assumes nothing.
-use mathlib.Core.Path.{_≡_, sym, ap, _∙_}
+use mathlib.Core.Path.{sym, ap, _∙_}
 use borrow.Author.Needs.{needs}
 use Rattle.sheet_cells.specs.declared.CellRead.the-variants.{Known}
 use Rattle.sheet_cells.specs.Cells.{revisedBy}

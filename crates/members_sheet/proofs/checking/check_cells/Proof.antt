@@ -1,13 +1,10 @@
 -- `members_sheet::checking::check_cells` meets its contract: no check applies to the cells before t.
 -- Assumes nothing.
-use Prim.Native.Nat.{ℕ, _+_, _-_, _≤_, _<_}
-use mathlib.Core.Path.{_≡_, sym, subst, _∙_}
-use native.Mathlib.Decide.{ℕ-discrete}
-use mathlib.Core.List.{List}
+use Prim.Native.Nat.{_-_, _≤_}
+use mathlib.Core.Path.{_≡_, subst}
 use native.Mathlib.Omega.{arith}
 use borrow.Author.Needs.{needs}
 use Rattle.refusals.specs.declared.Verdict.{Verdict}
-use Rattle.refusals.specs.Contracts.{Before, Stopped}
 use Rattle.sheet_cells.specs.CellChecks.{cellChecks}
 use Rattle.sheet_cells.specs.Contracts.{Says}
 use Rattle.members_sheet.specs.Contracts.{AllTaken}

@@ -1,23 +1,22 @@
 -- `members_sheet::checking::check_sheet` meets its contract: at each return, the checks before it did not apply.
 -- Assumes nothing.
 use Prim.Native.Nat.{ℕ, _≤_}
-use mathlib.Core.Path.{_≡_, sym, ap, subst, _∙_}
+use mathlib.Core.Path.{_≡_, sym, ap, subst}
 use mathlib.Core.Bool.{not}
 use mathlib.Core.List.{List}
 use native.Mathlib.Omega.{arith}
 use borrow.Author.Needs.{needs}
 use borrow.Author.Tests.{lt-ltb, le-ltb, eq-eqb, ne-eqb}
 use lib.ListN.{length, drop}
-use Rattle.refusals.specs.declared.Refusal.{Refusal}
 use Rattle.refusals.specs.declared.Verdict.{Verdict}
 use Rattle.refusals.specs.Checks.{Check}
-use Rattle.refusals.specs.Contracts.{Before, Stopped, SpanFits, Spans}
+use Rattle.refusals.specs.Contracts.{Before, SpanFits, Spans}
 use Rattle.refusals.proofs.CheckLaws.{_&_, one-more, row-applies, stopped-after, stopped-more, stopped-on, span-passed}
 use Rattle.desk_forms.specs.Header.{countIn, startIn}
 use Rattle.desk_forms.proofs.FileLaws.{start-byte}
 use Rattle.sheet_cells.specs.Cells.{sizesLength, sheetLength}
-use Rattle.sheet_cells.specs.Contracts.{Lies}
-use Rattle.members_sheet.specs.ReadSheet.{cellsFrom, sheetChecks}
+use Rattle.sheet_cells.specs.Contracts.{HasCells}
+use Rattle.members_sheet.specs.ReadSheet.{sheetChecks}
 use Rattle.members_sheet.specs.Contracts.{AllTaken, CellsSay}
 use Rattle.members_sheet.proofs.checking.check_sheet.Statement.{statement}
 use Rattle.members_sheet.proofs.checking.check_sheet.Tie as tie
@@ -72,16 +71,16 @@ before6 c =
     let s = from2 (c .before) in
     one-more (checks s) 5 (before5 (c .before)) (le-ltb (s .args .room) (countIn (sheet s)) (omega (arith, c .if3 .left, counted (read (c .before .before .before .before)))))
 
-lies : (c : tie.Else3) → Lies (sheet (from2 (c .before))) (read (c .before .before .before .before) .number-at .result)
-lies c =
+hasCells : (c : tie.Else3) → HasCells (sheet (from2 (c .before))) (read (c .before .before .before .before) .number-at .result)
+hasCells c =
     let k = read (c .before .before .before .before) in
-    record { count = sym (counted k); most = omega (arith, fits (c .before .before) .most, counted k); room = omega (arith, long (c .before), counted k) }
+    record { count = sym (counted k); most = omega (arith, fits (c .before .before) .most, counted k); long = omega (arith, long (c .before), counted k) }
 
 -- what was found of the cells
 cells : (c : tie.After-check-cells) {v : Verdict} → c .check-cells .result ≡ v → let s = from2 (c .before .before) in CellsSay (sheet s) (countIn (sheet s)) v
 cells c {v} e =
     let s = from2 (c .before .before) in
-    subst (λ (n : ℕ). CellsSay (sheet s) n v) (lies (c .before) .count)
+    subst (λ (n : ℕ). CellsSay (sheet s) n v) (hasCells (c .before) .count)
     (subst (λ (u : Verdict). CellsSay (sheet s) (read (c .before .before .before .before .before) .number-at .result) u) e (c .check-cells .ensures))
 
 returns : tie.Need-returns
@@ -130,7 +129,7 @@ returns-4 c =
     record { at = 5; before = before5 o; here = row-applies 4 (lt-ltb (s .args .room) (countIn (sheet s)) (omega (arith, c .if3 .taken, counted (read (o .before .before .before))))) }
 
 check-cells-requires : tie.Need-check-cells-requires
-check-cells-requires c κs = lies c
+check-cells-requires c κs = hasCells c
 
 enum-known-refusal-2 : tie.Need-enum-known-refusal-2
 enum-known-refusal-2 c = search needs
@@ -149,8 +148,8 @@ returns-6 c =
     let s = from2 (a .before .before) in
     record {
       passed = before6 (a .before);
-      taken = subst (AllTaken (sheet s)) (sym (lies (a .before) .count)) (cells a (c .enum-told2 .given .1));
-      lies = lies (a .before);
+      taken = subst (AllTaken (sheet s)) (sym (hasCells (a .before) .count)) (cells a (c .enum-told2 .given .1));
+      hasCells = hasCells (a .before);
       begins = sym (start-byte (sheet s));
       enough = omega (arith, a .before .if3 .left);
     }

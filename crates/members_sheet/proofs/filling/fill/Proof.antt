@@ -7,12 +7,15 @@ use native.Mathlib.Omega.{arith}
 use borrow.Author.Needs.{needs, sfits-of}
 use lib.IntN.{ℤ, pos}
 use lib.ListN.{length, set}
+use lib.Ieee.{Float}
 use mir.Syntax.{w32}
 use mir.Facts.{toZ-ofZ}
 use Rattle.integers.specs.Filling.{Filled}
 use Rattle.integers.proofs.FillingLaws.{filled-none, filled-more, filled-front}
 use Rattle.doubles.specs.Doubles.{numberIn, counts}
+use Rattle.sheet_cells.specs.declared.Imported.{Imported}
 use Rattle.sheet_cells.specs.Cells.{cellAt, newest}
+use Rattle.sheet_cells.specs.Contracts.{withMonth}
 use Rattle.sheet_cells.proofs.CellLaws.{taken, newest-counts}
 use Rattle.members_sheet.specs.Series.{figuresIn}
 use Rattle.members_sheet.proofs.filling.fill.Statement.{statement}
@@ -23,6 +26,13 @@ Inv-loop sheet n figures₀ t₀ figures t = (t ≤ n) × Filled (pos 0) (λ k. 
 
 abbrev μ-loop : tie.MeasureT-loop
 μ-loop sheet n figures₀ t₀ figures t = n - t
+
+-- the parts of what a cell brings in
+months : {d : Imported} {t : ℕ} {x : Float} → d ≡ withMonth t x → d .month ≡ t
+months e = ap (λ (d : Imported). d .month) e
+
+doubled : {d : Imported} {t : ℕ} {x : Float} → d ≡ withMonth t x → d .double ≡ x
+doubled e = ap (λ (d : Imported). d .double) e
 
 -- one month more, at its own number
 more-at : {f : ℕ → ℤ} {t m : ℕ} {v : ℤ} {old new : List ℤ} → Filled (pos 0) f 0 t old new → t < length new → m ≡ t → v ≡ f t → Filled (pos 0) f 0 (t + 1) old (set new m v)
@@ -42,14 +52,14 @@ number-of-requires c κs =
     let l = c .before .before .before in
     let s = l .before .before in
     let t = l .loop .t in
-    ap counts (c .import .ensures .1 ∙ ap newest (c .before .cell-at .ensures))
+    ap counts (doubled (c .import .ensures) ∙ ap newest (c .before .cell-at .ensures))
     ∙ newest-counts (cellAt (s .args .sheet .now) t) (taken (s .args .sheet .now) t (s .pre .1 .each t (omega arith)))
 
 mul-t10 : tie.Need-mul-t10 Inv-loop μ-loop
-mul-t10 c = omega (arith, c .before .import .ensures .0)
+mul-t10 c = omega (arith, months (c .before .import .ensures))
 
 slice-set-from-figures : tie.Need-slice-set-from-figures Inv-loop μ-loop
-slice-set-from-figures c = omega (arith, c .before .import .ensures .0)
+slice-set-from-figures c = omega (arith, months (c .before .import .ensures))
 
 add-t : tie.Need-add-t Inv-loop μ-loop
 add-t c = omega arith
@@ -61,8 +71,8 @@ loop-again : tie.Need-loop-again Inv-loop μ-loop
 loop-again c =
     let i = c .before in
     let l = i .before .before .before in
-    let v = toZ-ofZ {w = w32} (sfits-of (c .number-of .ok)) ∙ c .number-of .ensures ∙ ap numberIn (i .import .ensures .1 ∙ ap newest (i .before .cell-at .ensures)) in
-    (omega arith, more-at (l .loop .inv .1) (omega arith) (i .import .ensures .0) v)
+    let v = toZ-ofZ {w = w32} (sfits-of (c .number-of .ok)) ∙ c .number-of .ensures ∙ ap numberIn (doubled (i .import .ensures) ∙ ap newest (i .before .cell-at .ensures)) in
+    (omega arith, more-at (l .loop .inv .1) (omega arith) (months (i .import .ensures)) v)
 
 same-length : tie.Need-same-length Inv-loop μ-loop
 same-length c = c .before .loop .inv .1 .long

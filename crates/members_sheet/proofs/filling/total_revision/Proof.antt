@@ -1,13 +1,11 @@
 -- `members_sheet::filling::total_revision` meets its contract: the total is the sum over the months before t.
 -- Assumes nothing.
-use Prim.Native.Nat.{ℕ, suc, _+_, _-_, _≤_}
-use mathlib.Core.Path.{_≡_, refl, sym, ap, _∙_}
+use Prim.Native.Nat.{_-_, _≤_}
+use mathlib.Core.Path.{_≡_, ap, _∙_}
 use native.Mathlib.Omega.{arith}
 use borrow.Author.Needs.{needs}
-use lib.Ieee.{Float}
 use Rattle.doubles.proofs.Exact.{zero-bits}
-use Rattle.sheet_cells.specs.Cells.{cellAt, revisedBy}
-use Rattle.sheet_cells.specs.declared.CellRead.{CellRead}
+use Rattle.sheet_cells.specs.Cells.{revisedBy}
 use Rattle.members_sheet.specs.Series.{summed}
 use Rattle.members_sheet.proofs.Sums.{summed-more}
 use Rattle.members_sheet.proofs.filling.total_revision.Statement.{statement}
