@@ -2,19 +2,27 @@
 
 use crate::Answer;
 
-const FIGURE_LIMIT: i32 = 200_000;
+pub const FIGURE_LIMIT: i32 = 200_000;
+
+/// The first of rows 1 to 3 that applies, 0 if none does.
+pub fn span(n: usize, start: u8) -> u8 {
+    if n < 72 {
+        1
+    } else if n > 600 {
+        2
+    } else if !(1..=12).contains(&start) {
+        3
+    } else {
+        0
+    }
+}
 
 /// The first of rows 1 to 5 that applies, (0, 0) if none does. `tables` are the lengths of the four tables and the two weights.
 pub fn check(figures: &[i32], start: u8, tables: [usize; 6], scratch: usize) -> Answer {
     let n = figures.len();
-    if n < 72 {
-        return (1, 0);
-    }
-    if n > 600 {
-        return (2, 0);
-    }
-    if !(1..=12).contains(&start) {
-        return (3, 0);
+    let row = span(n, start);
+    if row != 0 {
+        return (row, 0);
     }
     if tables != [n; 6] || scratch < 8 * n {
         return (4, 0);

@@ -1,21 +1,24 @@
-//! How long decomposing takes: the proved program beside a plain integer one, on the same series.
+//! How long decomposing a series and reading a members' sheet take: the proved program beside a plain one, on the same series and sheets.
 //!
 //!     bench                               the times, as tables for Markdown
 //!     bench count PROGRAM N [replaced]    works the series of N months once with ours or plain, for counting instructions:
 //!                                         the ordinary ones or those with nearly all values replaced
+//!     bench count PROGRAM sheet N         reads the members' sheets of N months once
 //!
 //! A round takes each line in turn, and for each line ours and plain. All lent slices are cleared before each call,
 //! outside the timed part; each call is timed by itself, and a round gives the median of its calls. Of the rounds the median
 //! is taken, also of the ratios, which compare times of the same round.
 
 use bench::series::{self, Dice, Series};
-use bench::{ours, plain, Answer, Lent};
+use bench::{ours, plain, plain_sheet, sheets, Answer, Lent, SheetLent};
 use std::hint::black_box;
 use std::time::Instant;
 
 /// The kinds of series with their lengths, a line of the tables for each.
 const LINES: [(Kind, usize); 6] =
     [(ORDINARY, 72), (ORDINARY, 120), (ORDINARY, 240), (ORDINARY, 600), (REPLACED, 72), (REPLACED, 600)];
+/// The lengths of the members' sheets, a line of their own table for each.
+const SHEETS: [usize; 2] = [72, 600];
 const SERIES: u64 = 8;
 const ROUNDS: usize = 201;
 /// A round works so many months with each program.
@@ -48,49 +51,101 @@ fn inputs((_, series): Kind, n: usize) -> Vec<Series> {
     (0..SERIES).map(|k| series(n, k)).collect()
 }
 
+/// The bytes of a members' sheet.
+struct Sheet(Vec<u8>);
+
+/// The members' sheets of the ordinary series of n months; every third month is a revision.
+fn sheets(n: usize) -> Vec<Sheet> {
+    let sheet = |(k, series): (u64, Series)| Sheet(sheets::sheet(series.start, &sheets::revised(k, &series, |t| t % 3 == 2)));
+    (0..).zip(inputs(ORDINARY, n)).map(sheet).collect()
+}
+
+/// A series or a members' sheet, with what is lent for it.
+trait Input: Sized {
+    type Lent: PartialEq;
+    const NAME: &'static str;
+    /// Ours and plain.
+    const PROGRAMS: [fn(&Self, &mut Self::Lent) -> Answer; 2];
+    /// What is lent for n months, every entry as given.
+    fn lend(n: usize, value: u8) -> Self::Lent;
+    fn clear(lent: &mut Self::Lent);
+}
+
+impl Input for Series {
+    type Lent = Lent;
+    const NAME: &'static str = "series";
+    const PROGRAMS: [fn(&Series, &mut Lent) -> Answer; 2] = [
+        |Series { start, figures }, lent| ours::decompose(figures, *start, lent),
+        |Series { start, figures }, lent| plain::decompose(figures, *start, lent),
+    ];
+
+    fn lend(n: usize, value: u8) -> Lent {
+        Lent::new(n, value.into(), value.into())
+    }
+
+    fn clear(lent: &mut Lent) {
+        lent.fill(0, 0);
+    }
+}
+
+impl Input for Sheet {
+    type Lent = SheetLent;
+    const NAME: &'static str = "members' sheet";
+    const PROGRAMS: [fn(&Sheet, &mut SheetLent) -> Answer; 2] =
+        [|Sheet(bytes), lent| ours::read_sheet(bytes, lent), |Sheet(bytes), lent| plain_sheet::read_sheet(bytes, lent)];
+
+    fn lend(n: usize, value: u8) -> SheetLent {
+        SheetLent::new(n, value)
+    }
+
+    fn clear(lent: &mut SheetLent) {
+        lent.fill(0);
+    }
+}
+
 /// Ends the program where ours and plain differ on some input.
-fn check_agreement(inputs: &[Series]) {
-    for (k, Series { start, figures }) in inputs.iter().enumerate() {
-        let left = [ours::decompose, plain::decompose].map(|decompose| {
-            let mut lent = Lent::new(figures.len(), 7, 7);
-            (decompose(figures, *start, &mut lent), lent)
+fn check_agreement<I: Input>(line: &Line<I>) {
+    for (k, input) in line.inputs.iter().enumerate() {
+        let left = I::PROGRAMS.map(|work| {
+            let mut lent = I::lend(line.n, 7);
+            (work(input, &mut lent), lent)
         });
         if left[0].0 != (0, 0) || left[1] != left[0] {
-            eprintln!("series {k} of {} months: ours and plain differ, so no times are taken", figures.len());
+            eprintln!("{} {k} of {} months: ours and plain differ, so no times are taken", I::NAME, line.n);
             std::process::exit(1);
         }
     }
 }
 
 /// Nanoseconds of a call, the median over all inputs so many times.
-fn time(inputs: &[Series], times: usize, work: fn(&[i32], u8, &mut Lent) -> Answer, lent: &mut Lent) -> f64 {
+fn time<I: Input>(inputs: &[I], times: usize, work: fn(&I, &mut I::Lent) -> Answer, lent: &mut I::Lent) -> f64 {
     let mut calls = Vec::with_capacity(times * inputs.len());
     for _ in 0..times {
-        for Series { start, figures } in inputs {
-            lent.fill(0, 0);
-            let (figures, start, lent) = black_box((figures, *start, &mut *lent));
+        for input in inputs {
+            I::clear(lent);
+            let (input, lent) = black_box((input, &mut *lent));
             let begun = Instant::now();
-            black_box(work(figures, start, lent));
+            black_box(work(input, lent));
             calls.push(begun.elapsed().as_nanos() as f64);
         }
     }
     percentile(calls.into_iter(), 50)
 }
 
-/// The series of one line with the times of all rounds, each of ours and plain.
-struct Line {
+/// The inputs of one line with the times of all rounds, each of ours and plain.
+struct Line<I> {
     name: &'static str,
     n: usize,
-    inputs: Vec<Series>,
+    inputs: Vec<I>,
     rounds: Vec<[f64; 2]>,
 }
 
 /// One round of one line.
-fn measure(line: &mut Line) {
+fn measure<I: Input>(line: &mut Line<I>) {
     let Line { n, inputs, rounds, .. } = line;
     let times = MONTHS_A_ROUND / (*n * inputs.len());
-    let mut lent = Lent::new(*n, 0, 0);
-    rounds.push([time(inputs, times, ours::decompose, &mut lent), time(inputs, times, plain::decompose, &mut lent)]);
+    let mut lent = I::lend(*n, 0);
+    rounds.push(I::PROGRAMS.map(|work| time(inputs, times, work, &mut lent)));
 }
 
 /// What the clock itself takes, a median.
@@ -105,9 +160,9 @@ fn percentile(values: impl Iterator<Item = f64>, percent: usize) -> f64 {
     values[(values.len() - 1) * percent / 100]
 }
 
-fn print_tables(lines: &[Line]) {
-    println!("Nanoseconds for a series, median of {ROUNDS} rounds (10th to 90th percentile):\n");
-    println!("| series | months | ours | plain | ours / plain |");
+fn print_times<I: Input>(lines: &[Line<I>]) {
+    println!("Nanoseconds for a {}, median of {ROUNDS} rounds (10th to 90th percentile):\n", I::NAME);
+    println!("| {} | months | ours | plain | ours / plain |", I::NAME);
     println!("|---|---:|---:|---:|---:|");
     for Line { name, n, rounds, .. } in lines {
         let time = |k: usize, percent: usize| percentile(rounds.iter().map(|round| round[k]), percent);
@@ -115,6 +170,10 @@ fn print_tables(lines: &[Line]) {
         let ratio = percentile(rounds.iter().map(|round| round[0] / round[1]), 50);
         println!("| {name} | {n} | {} | {ratio:.2} |", times.join(" | "));
     }
+}
+
+fn print_tables(lines: &[Line<Series>]) {
+    print_times(lines);
     println!("\nNanoseconds for a month:\n");
     println!("| series | months | ours | plain |\n|---|---:|---:|---:|");
     for Line { name, n, rounds, .. } in lines {
@@ -129,41 +188,52 @@ fn print_tables(lines: &[Line]) {
         let ratios = [0, 1].map(|k| format!("{:.2}", percentile(pairs().map(|(round, other)| round[k] / other[k]), 50)));
         println!("| {name} | {n} | {} |", ratios.join(" | "));
     }
+}
+
+/// All rounds, then the tables.
+fn measure_all() {
+    let mut lines = LINES.map(|(kind, n)| Line { name: kind.0, n, inputs: inputs(kind, n), rounds: Vec::new() });
+    let mut sheet_lines = SHEETS.map(|n| Line { name: "a third revised", n, inputs: sheets(n), rounds: Vec::new() });
+    lines.iter().for_each(check_agreement);
+    sheet_lines.iter().for_each(check_agreement);
+    for _ in 0..ROUNDS {
+        lines.iter_mut().for_each(measure);
+        sheet_lines.iter_mut().for_each(measure);
+    }
+    print_tables(&lines);
+    println!();
+    print_times(&sheet_lines);
     println!("\nThe clock itself takes about {:.0} ns of each call.", clock());
 }
 
-/// Works each series of n months once with one program.
-fn count(program: &str, n: usize, kind: Kind) {
-    let mut lent = Lent::new(n, 0, 0);
-    for Series { start, figures } in black_box(inputs(kind, n)) {
-        let answer = match program {
-            "ours" => ours::decompose(&figures, start, &mut lent),
-            _ => plain::decompose(&figures, start, &mut lent),
-        };
-        assert_eq!(black_box(answer), (0, 0));
+/// Works each input of n months once with one program.
+fn count<I: Input>(program: &str, n: usize, inputs: Vec<I>) {
+    let work = I::PROGRAMS[usize::from(program == "plain")];
+    let mut lent = I::lend(n, 0);
+    for input in black_box(inputs) {
+        assert_eq!(black_box(work(&input, &mut lent)), (0, 0));
     }
+}
+
+/// The months that a word says, if a series may have so many.
+fn months(word: &str) -> Option<usize> {
+    word.parse().ok().filter(|n| (72..=600).contains(n))
 }
 
 fn main() {
     let words: Vec<String> = std::env::args().skip(1).collect();
-    match words.iter().map(String::as_str).collect::<Vec<&str>>()[..] {
+    let done = match words.iter().map(String::as_str).collect::<Vec<&str>>()[..] {
         [] => {
-            let line = |&(kind, n): &(Kind, usize)| Line { name: kind.0, n, inputs: inputs(kind, n), rounds: Vec::new() };
-            let mut lines: Vec<Line> = LINES.iter().map(line).collect();
-            lines.iter().for_each(|line| check_agreement(&line.inputs));
-            for _ in 0..ROUNDS {
-                lines.iter_mut().for_each(measure);
-            }
-            print_tables(&lines);
+            measure_all();
+            Some(())
         }
-        ["count", program @ ("ours" | "plain"), n, ref kind @ ..]
-            if n.parse::<usize>().is_ok_and(|n| (72..=600).contains(&n)) && matches!(kind, [] | ["replaced"]) =>
-        {
-            count(program, n.parse().unwrap_or(600), if kind.is_empty() { ORDINARY } else { REPLACED });
-        }
-        _ => {
-            eprintln!("bench, or bench count ours|plain N [replaced] with N from 72 to 600");
-            std::process::exit(2);
-        }
+        ["count", program @ ("ours" | "plain"), n] => months(n).map(|n| count(program, n, inputs(ORDINARY, n))),
+        ["count", program @ ("ours" | "plain"), n, "replaced"] => months(n).map(|n| count(program, n, inputs(REPLACED, n))),
+        ["count", program @ ("ours" | "plain"), "sheet", n] => months(n).map(|n| count(program, n, sheets(n))),
+        _ => None,
+    };
+    if done.is_none() {
+        eprintln!("bench, or bench count ours|plain N [replaced], or bench count ours|plain sheet N, with N from 72 to 600");
+        std::process::exit(2);
     }
 }
