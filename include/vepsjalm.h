@@ -63,7 +63,8 @@
 
 /* The refusal sheet. The words of vepsjalm_refusal_text say when each number is the answer; n is the number of figures in decomposing and
    writing, the count of the file or the members' sheet in reading and moving. A file's header has 4 bytes, by calendar month 6 with the first
-   year, and 6 bytes for each month follow; the sizes of a members' sheet have 3 bytes, and 17 for each month follow. The place is t of the
+   year, and 6 bytes for each month follow; the sizes of a members' sheet, count and
+   start month, have 3 bytes, and 17 for each month follow. The place is t of the
    first such figure or weight for VEPSJALM_FIGURE_OUTSIDE and VEPSJALM_WEIGHT_ABOVE, and of the first bad cell for VEPSJALM_MALFORMED_CELL,
    VEPSJALM_GAP and VEPSJALM_BAD_DOUBLE, where t is a month's place in the series, counted from 0; by calendar month too, wherever in the file
    it stands. It is 0 for all others.
@@ -106,9 +107,9 @@ static inline const char *vepsjalm_refusal_text(uint8_t number)
     case VEPSJALM_WRONG_LENGTH:    return "a lent slice has the wrong length";
     case VEPSJALM_FIGURE_OUTSIDE:  return "a figure outside -200,000 to 200,000";
     case VEPSJALM_EMPTY_GROUP:     return "dropping leaves a group empty";
-    case VEPSJALM_NO_HEADER:       return "a file or sheet of fewer bytes than its header";
+    case VEPSJALM_NO_HEADER:       return "a file of fewer bytes than its header, or a members' sheet than its sizes";
     case VEPSJALM_BAD_PERIOD:      return "the file's period is not 12";
-    case VEPSJALM_BAD_FILE_LENGTH: return "the length of the file or sheet is not that of n months";
+    case VEPSJALM_BAD_FILE_LENGTH: return "the length of the file or members' sheet is not that of n months";
     case VEPSJALM_WEIGHT_ABOVE:    return "a weight above 1,000";
     case VEPSJALM_BAD_YEARS:       return "first year or year of the last month outside 1 to 9999";
     case VEPSJALM_MALFORMED_CELL:  return "an unknown kind, or an unused double with a byte that is not zero";

@@ -28,7 +28,7 @@ pub record Storable (s : SeriesWithWeights) : Type 0 where
 unfoldable pub header : ℕ → ℕ → ℕ → List ℕ
 header count start period = bytesOf 2 count ++ bytesOf 1 start ++ bytesOf 1 period
 
--- and in a byte string: the count in the 2 bytes from place 0 on (of a members' sheet too, METHOD 7.10, and the start month)
+-- and in a byte string: the count in the 2 bytes from place 0 on (this and the start month also of a members' sheet, METHOD 7.10)
 unfoldable pub countIn : List ℕ → ℕ
 countIn file = numberAt file 0 2
 

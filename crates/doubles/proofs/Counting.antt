@@ -1,27 +1,29 @@
 -- Which doubles count, as the code finds out: by the whole part, and whether the double equals it.
 use mathlib.Core.Path.{_≡_, refl, sym, ap, _∙_, subst}
 use mathlib.Core.Bool.{Bool, true, false, _&&_, _||_, Bool·beq}
-use Prim.Native.Nat.{ℕ, zero, suc, _+_, _*_, _/_, _%_, _<_, _≤_, min}
+use Prim.Native.Nat.{ℕ, zero, suc, _+_, _*_, _/_, _%_, _<_, _≤_, min, _^_}
 use native.Mathlib.Nat.{mul-one, mul-assoc, mul-right-comm, mul-pos, div-add-mod', eq-of-mul-eq-mul-right, zero-mul, le-div-iff-mul-le}
 use native.Mathlib.Omega.{arith}
-use borrow.Author.Tests.{ltb-true, ltb-false, lt-leb, le-leb, eqb-true, eqb-false, eq-eqb, ne-eqb}
-use lib.Dec.{leb, eqb}
-use lib.IntN.{ℤ, pos, negsuc, negℤ, natAbs}
+use borrow.Author.Tests.{lt-ltb, ltb-true, ltb-false, lt-leb, le-leb, eqb-true, eqb-false, eq-eqb, ne-eqb}
+use lib.Dec.{T, leb, eqb}
+use lib.IntN.{ℤ, pos, negsuc, negℤ, natAbs, _+ℤ_}
 use lib.Signed.{ltZ}
 use mir.Syntax.{w32}
 use mir.Val.{SFits}
-use lib.Ieee.{Float, nan, inf, fin, binary64, up, down, lt, le, eq, ofInt, toSigned, ofBits}
+use lib.Ieee.{Float, nan, inf, fin, binary64, up, down, lt, le, eq, ofInt, toSigned, ofBits, add, inSigned, inFloat}
 use lib.Ieee.Fits.{down-pos}
+use lib.Ieee.Back.{positive-back, negative-back}
 use lib.Ieee.Exact.{HasValue}
+use Rattle.integers.proofs.Differences.{rep, ringℤ}
 use Rattle.integers.proofs.SizeLaws.{abs-neg}
 use Rattle.refusals.specs.Inside.{figureInside}
 use Rattle.refusals.specs.Limits.{largestFigure}
 use Rattle.refusals.proofs.InsideLaws.{both, figure-inside}
 use Rattle.doubles.specs.declared.AsFigure.the-variants.{Figure, Not}
 use Rattle.doubles.specs.Contracts.{figureOf}
-use Rattle.doubles.specs.Doubles.{isWhole, numberIn, counts, IsNumber}
+use Rattle.doubles.specs.Doubles.{isWhole, numberIn, counts, IsNumber, doubleOf}
 use Rattle.doubles.specs.Laws.{NamedDoubles}
-use Rattle.doubles.proofs.Exact.{signed, size-of, isNeg, value-of}
+use Rattle.doubles.proofs.Exact.{zero-positive, zero-bits, sum-exact, signed, size-of, isNeg, value-of}
 
 -- ---- a double that counts
 not-figure : {z : ℤ} → Not ≡ Figure z → ⊥
@@ -213,3 +215,21 @@ above-far (negsuc k) t = let z : _≡_ {A = ℕ} 0 1 = cc in absurd (omega arith
 pub within : (z : ℤ) → ltZ z (negsuc 199999) ≡ false → ltZ (pos 200000) z ≡ false → natAbs z ≤ largestFigure
 within (pos n) t u = ltb-false 200000 n u
 within (negsuc k) t u = omega (arith, ltb-false 199999 k t)
+
+-- ---- where a double is known to count, positive zero and it sum to the double of its number, which the machine casts to that number
+back : (z : ℤ) → natAbs z ≤ largestFigure → T (inSigned binary64 31 (doubleOf z)) × (toSigned 31 (doubleOf z) ≡ z)
+unfolding inFloat
+back (pos n) h = positive-back binary64 31 n (subst T (sym (le-leb n (2 ^ 53) (omega arith))) tt) (omega arith)
+back (negsuc k) h = negative-back binary64 31 k (subst T (sym (lt-ltb k (2 ^ 53) (omega arith))) tt) (omega arith)
+
+nothing-added : (z : ℤ) → pos 0 +ℤ z ≡ z
+nothing-added z = rw (rep z) (simp ringℤ (omega arith))
+
+pub from-zero : (x : Float) → counts x ≡ true → add binary64 (ofBits binary64 0) x ≡ doubleOf (numberIn x)
+from-zero x h =
+    ap (λ (y : Float). add binary64 y x) (zero-bits ∙ sym zero-positive)
+    ∙ sum-exact (pos 0) (numberIn x) x (omega arith) (counts-number x h)
+    ∙ ap doubleOf (nothing-added (numberIn x))
+
+pub cast-back : (x : Float) → counts x ≡ true → T (inSigned binary64 31 (doubleOf (numberIn x))) × (toSigned 31 (doubleOf (numberIn x)) ≡ numberIn x)
+cast-back x h = back (numberIn x) (counts-size x h)

@@ -1,4 +1,4 @@
--- METHOD 7.11 and 7.13: the doubles that METHOD names, and what holds of doubles and whole numbers, in full; the names in brackets are those of the
+-- METHOD 7.11 and 7.13: the doubles that METHOD names and some more, and what holds of doubles and whole numbers, in full; the names in brackets are those of the
 -- proofs, in proofs/.
 use Prim.Native.Nat.{ℕ, _^_, _≤_}
 use mathlib.Core.Path.{_≡_}

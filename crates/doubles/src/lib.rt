@@ -8,7 +8,7 @@ ghost use mathlib.Core.Bool.{true};
 ghost use Rattle.doubles.specs.Doubles.{counts, doubleAt, numberIn, unusedAt};
 ghost use Rattle.doubles.specs.Contracts.{figureOf};
 
-// Bytes of a double; the numbers that four bytes can make.
+// Bytes of a double and of half of one, and how many numbers four bytes can make.
 pub const DOUBLE: usize = 8;
 
 const HALF: usize = 4;
@@ -31,7 +31,7 @@ const INFINITE: u64 = 9218868437227405312;
 const SIGN: u64 = 9223372036854775808;
 
 // The double of a pattern of bits; every pattern that is no number gives the same.
-fn double_of(bits: u64) -> f64
+fn double_of_bits(bits: u64) -> f64
     ensures { λ r. ⌜ r ≡ ofBits binary64 bits ⌝ }
 {
     if INFINITE < bits % SIGN {
@@ -46,7 +46,7 @@ pub fn double_at(bytes: &[u8], at: usize) -> f64
     requires { ⌜ at + 8 ≤ length (now bytes) ⌝ }
     ensures { λ r. ⌜ r ≡ doubleAt (now (bytes .entry)) at ⌝ }
 {
-    double_of(bits_at(bytes, at))
+    double_of_bits(bits_at(bytes, at))
 }
 
 // Eight zero bytes.
@@ -57,7 +57,7 @@ pub fn unused_at(bytes: &[u8], at: usize) -> bool
     bits_at(bytes, at) == 0
 }
 
-// A figure's size.
+// The largest size of a figure.
 const LARGEST: i64 = refusals::LARGEST_FIGURE as i64;
 
 // The figure that a double is, if it counts.
@@ -79,21 +79,19 @@ pub fn figure_of(x: f64) -> AsFigure
             if LARGEST < whole {
                 return AsFigure::Not;
             }
-            if std::num::nearest_i64_to_f64(whole) == x {
-                return AsFigure::Figure(whole as i32);
+            let figure = whole as i32;
+            if figure as f64 == x {
+                return AsFigure::Figure(figure);
             }
         }
     }
     AsFigure::Not
 }
 
-// The figure that a double is, where it is known to count.
+// The figure that a double is, where it is known to count. A sum with positive zero is never negative zero, which the cast would not take.
 pub fn number_of(x: f64) -> i32
     requires { ⌜ counts x ≡ true ⌝ }
     ensures { λ r. ⌜ r ≡ numberIn x ⌝ }
 {
-    match figure_of(x) {
-        AsFigure::Figure(figure) => figure,
-        AsFigure::Not => 0,
-    }
+    (0.0 + x) as i32
 }

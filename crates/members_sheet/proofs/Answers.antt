@@ -19,7 +19,7 @@ use Rattle.doubles.specs.Doubles.{IsNumber, doubleOf, positiveZero}
 use Rattle.members_sheet.specs.declared.SheetReading.the-variants.{Series, Refused}
 use Rattle.members_sheet.specs.Series.{figuresIn, totalRevision, summed, TotalExact}
 use Rattle.members_sheet.specs.ReadSheet.{SheetAccepted, sheetAccepted, sheetChecks, sheetAnswer, SheetDone}
-use Rattle.members_sheet.specs.Contracts.{AllTaken, SheetFits}
+use Rattle.members_sheet.specs.Contracts.{AllAccepted, SheetFits}
 use Rattle.members_sheet.proofs.CheckingLaws.{all-passed, all-taken}
 use Rattle.members_sheet.proofs.Sums.{sum-of-first, step-exact, sum-exactly}
 
@@ -48,8 +48,8 @@ module _ (sheet : List ℕ) (room : ℕ) where
   sheet-stops s = stopped _ s
 
   module _ {n start : ℕ} (f : SheetFits sheet room n start) where
-    taken : AllTaken sheet (countIn sheet)
-    taken = subst (AllTaken sheet) (f .hasCells .count) (f .taken)
+    taken : AllAccepted sheet (countIn sheet)
+    taken = subst (AllAccepted sheet) (f .hasCells .count) (f .taken)
 
     -- the sum in doubles is the double of the exact total
     total : summed sheet n ≡ doubleOf (totalRevision sheet)

@@ -10,13 +10,13 @@ use Rattle.refusals.specs.Contracts.{Before, Stopped}
 use Rattle.refusals.proofs.CheckLaws.{_&_, stopped-after, stopped-more}
 use Rattle.sheet_cells.specs.CellChecks.{cellChecks}
 use Rattle.members_sheet.specs.ReadSheet.{cellsFrom}
-use Rattle.members_sheet.specs.Contracts.{AllTaken}
+use Rattle.members_sheet.specs.Contracts.{AllAccepted}
 
 -- ---- as the loop goes
-pub taken-none : (sheet : List ℕ) → AllTaken sheet 0
+pub taken-none : (sheet : List ℕ) → AllAccepted sheet 0
 taken-none sheet = record { each = λ t h. absurd (omega arith) }
 
-pub taken-more : {sheet : List ℕ} {t : ℕ} → AllTaken sheet t → Before 3 (cellChecks sheet t) → AllTaken sheet (t + 1)
+pub taken-more : {sheet : List ℕ} {t : ℕ} → AllAccepted sheet t → Before 3 (cellChecks sheet t) → AllAccepted sheet (t + 1)
 taken-more {sheet} {t} a here = record { each = λ k h. at k h (ℕ-discrete k t) }
   where
     at : (k : ℕ) → k < t + 1 → Dec (k ≡ t) → Before 3 (cellChecks sheet k)
@@ -59,15 +59,15 @@ module _ (sheet : List ℕ) where
       subst (λ (m : ℕ). Before 3 (cellChecks sheet m)) r (each-passed (suc t) k (h .1 .1 .1) j (omega arith))
 
 -- from the first cell on
-pub stopped-here : {q : Refusal} {sheet : List ℕ} {n t : ℕ} → AllTaken sheet t → t < n → Stopped q (cellChecks sheet t) → Stopped q (cellsFrom sheet 0 n)
+pub stopped-here : {q : Refusal} {sheet : List ℕ} {n t : ℕ} → AllAccepted sheet t → t < n → Stopped q (cellChecks sheet t) → Stopped q (cellsFrom sheet 0 n)
 stopped-here {q} {sheet} {n} {t} a l s =
     let e : t ≡ 0 + t = omega arith in
     stopped-cell sheet t 0 n l (λ j h. let m : j ≡ 0 + j = omega arith in subst (λ (k : ℕ). Before 3 (cellChecks sheet k)) m (a .each j h))
     (subst (λ (k : ℕ). Stopped q (cellChecks sheet k)) e s)
 
-pub all-passed : {sheet : List ℕ} {n : ℕ} → AllTaken sheet n → Before (length (cellsFrom sheet 0 n)) (cellsFrom sheet 0 n)
+pub all-passed : {sheet : List ℕ} {n : ℕ} → AllAccepted sheet n → Before (length (cellsFrom sheet 0 n)) (cellsFrom sheet 0 n)
 all-passed {sheet} {n} a = cells-passed sheet 0 n (λ j h. let m : j ≡ 0 + j = omega arith in subst (λ (k : ℕ). Before 3 (cellChecks sheet k)) m (a .each j h))
 
 -- and back, where the answer is a success
-pub all-taken : {sheet : List ℕ} {n : ℕ} → Before (length (cellsFrom sheet 0 n)) (cellsFrom sheet 0 n) → AllTaken sheet n
+pub all-taken : {sheet : List ℕ} {n : ℕ} → Before (length (cellsFrom sheet 0 n)) (cellsFrom sheet 0 n) → AllAccepted sheet n
 all-taken {sheet} {n} b = record { each = λ t h. let m : 0 + t ≡ t = omega arith in subst (λ (k : ℕ). Before 3 (cellChecks sheet k)) m (each-passed sheet 0 n b t h) }

@@ -17,7 +17,7 @@ use Rattle.sheet_cells.specs.declared.CellRead.{CellRead}
 use Rattle.sheet_cells.specs.declared.CellRead.the-variants.{Known, Malformed}
 use Rattle.sheet_cells.specs.Cells.{cellAt, revision, difference, revisedBy}
 use Rattle.members_sheet.specs.Series.{revisionOfFirst, summed, StepExact}
-use Rattle.members_sheet.specs.Contracts.{AllTaken}
+use Rattle.members_sheet.specs.Contracts.{AllAccepted}
 use Rattle.sheet_cells.proofs.CellLaws.{Takes, taken}
 
 -- ---- one month more
@@ -51,7 +51,7 @@ cell-sum (Known (Revision old new)) z h l =
     sum-exact z (numberIn new -ℤ numberIn old) (sub binary64 new old) (omega arith) (cell-difference (Known (Revision old new)) h)
 
 -- ---- all of them
-module _ (sheet : List ℕ) (n : ℕ) (most : n ≤ mostMonths) (a : AllTaken sheet n) where
+module _ (sheet : List ℕ) (n : ℕ) (most : n ≤ mostMonths) (a : AllAccepted sheet n) where
   here : (t : ℕ) → t < n → Takes (cellAt sheet t)
   here t h = taken sheet t (a .each t h)
 

@@ -13,17 +13,17 @@ use Rattle.members_sheet.specs.declared.SheetChecked.the-variants as che
 use Rattle.members_sheet.specs.ReadSheet.{cellsFrom, sheetChecks}
 
 -- no check of the first n cells applies
-pub record AllTaken (sheet : List ℕ) (n : ℕ) : Type 0 where
+pub record AllAccepted (sheet : List ℕ) (n : ℕ) : Type 0 where
   pub each : (t : ℕ) → t < n → Before 3 (cellChecks sheet t)
 
 abbrev pub CellsSay : List ℕ → ℕ → Verdict → Type 0
-CellsSay sheet n Fine = AllTaken sheet n
+CellsSay sheet n Fine = AllAccepted sheet n
 CellsSay sheet n (Refused q) = Stopped q (cellsFrom sheet 0 n)
 
 -- no check of the sheet applies, and n and the start month are its own
 pub record SheetFits (sheet : List ℕ) (room n start : ℕ) : Type 0 where
   pub passed : Before 6 (sheetChecks sheet room)
-  pub taken : AllTaken sheet n
+  pub taken : AllAccepted sheet n
   pub hasCells : HasCells sheet n
   pub begins : start ≡ startIn sheet
   pub enough : n ≤ room

@@ -105,7 +105,8 @@ withoutOld (Known Gap) = Known Gap
 withoutOld (Known (Figure x)) = Known (Figure x)
 withoutOld (Known (Revision old new)) = Known (Revision positiveZero new)
 
--- two sheets that differ in nothing but old figures, and those of the second count
+-- two sheets that differ in nothing but old figures; every double that the second uses counts (where the first is accepted, this asks it of old
+-- figures alone)
 pub record OldFiguresChanged (sheet sheet′ : List ℕ) : Type 0 where
   pub sameLength : length sheet ≡ length sheet′
   pub sameCount : countIn sheet ≡ countIn sheet′

@@ -5,31 +5,21 @@ ghost use Prim.Native.Nat.{_≤_};
 ghost use lib.ListN.{length, drop};
 ghost use Rattle.sheet_cells.specs.Contracts.{HasCells};
 ghost use Rattle.members_sheet.specs.Series.{figuresIn, summed};
-ghost use Rattle.members_sheet.specs.Contracts.{AllTaken};
+ghost use Rattle.members_sheet.specs.Contracts.{AllAccepted};
 
-// Fills the first n places of the slice.
-pub fn fill(sheet: &[u8], n: usize, figures: &mut [i32])
-    requires { ⌜ HasCells (now sheet) n × AllTaken (now sheet) n × (n ≤ length (now figures)) ⌝ }
-    ensures { λ _. ⌜ now (figures .exit) ≡ figuresIn (now (sheet .entry)) ++ drop n (now (figures .entry)) ⌝ }
-{
-    let mut t = 0;
-    while t < n {
-        let imported = sheet_cells::import(sheet_cells::cell_at(sheet, n, t), t);
-        let month = imported.month;
-        figures[month] = doubles::number_of(imported.double);
-        t += 1;
-    }
-}
-
-// The revisions, summed in order of t from positive zero.
-pub fn total_revision(sheet: &[u8], n: usize) -> f64
-    requires { ⌜ HasCells (now sheet) n ⌝ }
-    ensures { λ r. ⌜ r ≡ summed (now (sheet .entry)) n ⌝ }
+// Fills the first n places of the slice; the answer is the sum of the revisions, in order of t from positive zero.
+pub fn fill(sheet: &[u8], n: usize, figures: &mut [i32]) -> f64
+    requires { ⌜ HasCells (now sheet) n × AllAccepted (now sheet) n × (n ≤ length (now figures)) ⌝ }
+    ensures { λ r. ⌜ (now (figures .exit) ≡ figuresIn (now (sheet .entry)) ++ drop n (now (figures .entry))) × (r ≡ summed (now (sheet .entry)) n) ⌝ }
 {
     let mut total = 0.0;
     let mut t = 0;
     while t < n {
-        total = sheet_cells::revised(total, sheet_cells::cell_at(sheet, n, t));
+        let cell = sheet_cells::cell_at(sheet, n, t);
+        let imported = sheet_cells::import(cell, t);
+        let month = imported.month;
+        figures[month] = doubles::number_of(imported.double);
+        total = sheet_cells::with_revision(total, cell);
         t += 1;
     }
     total

@@ -24,8 +24,7 @@ pub fn read_sheet(sheet: &[u8], figures: &mut [i32]) -> SheetReading
     match checking::check_sheet(sheet, figures.len()) {
         SheetChecked::Refused(refusal) => SheetReading::Refused(refusal),
         SheetChecked::Fits { count, start } => {
-            filling::fill(sheet, count, figures);
-            let total = filling::total_revision(sheet, count);
+            let total = filling::fill(sheet, count, figures);
             SheetReading::Series {
                 count,
                 start,

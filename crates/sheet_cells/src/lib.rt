@@ -13,7 +13,7 @@ pub const SIZES: usize = 3;
 
 pub const CELL: usize = 2 * doubles::DOUBLE;
 
-// A cell as its kind has it; a revision is the old figure and the new one.
+// A cell, by its kind; a revision is the old figure and the new one.
 pub enum Cell {
     Gap,
     Figure(f64),
@@ -26,7 +26,7 @@ pub enum CellRead {
     Malformed,
 }
 
-// A month's number and a double of it, together until the sheet is accepted.
+// A month's number and a double of it, together as they go to acceptance, and to the slice when the sheet is accepted.
 pub struct Imported {
     pub month: usize,
     pub double: f64,
@@ -45,21 +45,21 @@ pub fn cell_at(sheet: &[u8], n: usize, t: usize) -> CellRead
     ensures { λ r. ⌜ r ≡ cellAt (now (sheet .entry)) t ⌝ }
 {
     let kind = sheet[SIZES + t];
-    let first = SIZES + n + CELL * t;
-    let second = first + doubles::DOUBLE;
+    let first_at = SIZES + n + CELL * t;
+    let second_at = first_at + doubles::DOUBLE;
     if kind == REVISION {
-        let old = doubles::double_at(sheet, first);
-        let new = doubles::double_at(sheet, second);
+        let old = doubles::double_at(sheet, first_at);
+        let new = doubles::double_at(sheet, second_at);
         return CellRead::Known(Cell::Revision(old, new));
     }
-    if !doubles::unused_at(sheet, second) {
+    if !doubles::unused_at(sheet, second_at) {
         return CellRead::Malformed;
     }
     if kind == FIGURE {
-        return CellRead::Known(Cell::Figure(doubles::double_at(sheet, first)));
+        return CellRead::Known(Cell::Figure(doubles::double_at(sheet, first_at)));
     }
     if kind == GAP {
-        if doubles::unused_at(sheet, first) {
+        if doubles::unused_at(sheet, first_at) {
             return CellRead::Known(Cell::Gap);
         }
     }
@@ -122,7 +122,7 @@ pub fn import(cell: CellRead, t: usize) -> Imported
 }
 
 // The total with the revision of one cell more.
-pub fn revised(total: f64, cell: CellRead) -> f64
+pub fn with_revision(total: f64, cell: CellRead) -> f64
     ensures { λ r. ⌜ r ≡ revisedBy total cell ⌝ }
 {
     let CellRead::Known(known) = cell else {

@@ -12,7 +12,7 @@ use Rattle.doubles.specs.Doubles.{positiveZero}
 use Rattle.members_sheet.specs.declared.SheetReading.{SheetReading}
 use Rattle.members_sheet.specs.declared.SheetReading.the-variants.{Series, Refused}
 use Rattle.members_sheet.specs.ReadSheet.{SheetAccepted, sheetSays, SheetDone}
-use Rattle.sheet_numbers.specs.SheetNumbers.{totalOf, SheetNumbers}
+use Rattle.sheet_numbers.specs.SheetNumbers.{totalTold, SheetNumbers}
 
 module _ {sheet : List ℕ} {f₀ f : List ℤ} {r : SheetReading} (p : SheetDone sheet f₀ r f) where
   pub has-series : {n m : ℕ} {v : Float} → r ≡ Series n m v → SheetNumbers sheet f₀ 0 n m v 0 f
@@ -21,7 +21,7 @@ module _ {sheet : List ℕ} {f₀ f : List ℤ} {r : SheetReading} (p : SheetDon
         number-is = ap numberOf s;
         count-is = ap (valueOf (λ (a : SheetAccepted). a .count)) s;
         start-is = ap (valueOf (λ (a : SheetAccepted). a .start)) s;
-        total-is = ap totalOf s;
+        total-is = ap totalTold s;
         place-is = ap placeOf s;
         figures-left = p .figuresLeft;
         exact = λ _. p .exact _ (ap sheetSays e);
@@ -33,7 +33,7 @@ module _ {sheet : List ℕ} {f₀ f : List ℤ} {r : SheetReading} (p : SheetDon
         number-is = i ∙ ap numberOf s;
         count-is = ap (valueOf (λ (a : SheetAccepted). a .count)) s;
         start-is = ap (valueOf (λ (a : SheetAccepted). a .start)) s;
-        total-is = z ∙ ap totalOf s;
+        total-is = z ∙ ap totalTold s;
         place-is = j ∙ ap placeOf s;
         figures-left = p .figuresLeft;
         exact = λ z. absurd (row-not-zero q (sym i ∙ z));

@@ -17,12 +17,12 @@ pub fn read_sheet(
     match members_sheet::read_sheet(sheet, figures) {
         SheetReading::Series {
             count: n,
-            start: first,
-            total: sum,
+            start: month,
+            total: revision,
         } => {
             *count = n;
-            *start = first;
-            *total = sum;
+            *start = month;
+            *total = revision;
             *place = 0;
             0
         }

@@ -9,20 +9,20 @@ use Rattle.doubles.proofs.double_at.Tie as tie
 use Rattle.doubles.proofs.double_at.Reads as reads
 use Rattle.doubles.proofs.double_at.Lts as lts
 use Rattle.doubles.proofs.bits_at.Reads as bits-at-reads
-use Rattle.doubles.proofs.double_of.Reads as double-of-reads
+use Rattle.doubles.proofs.double_of_bits.Reads as double-of-reads
 
 -- src/lib.rt:49:15
 bits-at-requires : tie.Need-bits-at-requires
 bits-at-requires c κs = search needs
 
 -- src/lib.rt:49:5
-double-of-requires : tie.Need-double-of-requires
-double-of-requires c κs = search needs
+double-of-bits-requires : tie.Need-double-of-bits-requires
+double-of-bits-requires c κs = search needs
 
 -- src/lib.rt:45:1
 returns : tie.Need-returns
 unfolding doubleAt
-returns c = c .double-of .ensures ∙ ap (ofBits binary64) (c .before .bits-at .ensures .value)
+returns c = c .double-of-bits .ensures ∙ ap (ofBits binary64) (c .before .bits-at .ensures .value)
 
 pub double-at-spec : {M : Type 1} → statement M
-double-at-spec = tie.close (tie.spec bits-at-requires double-of-requires returns)
+double-at-spec = tie.close (tie.spec bits-at-requires double-of-bits-requires returns)

@@ -28,9 +28,6 @@ enum-known-count c = search needs
 fill-requires : tie.Need-fill-requires
 fill-requires c κs = let f = fits (c .before .before) in (f .hasCells, f .taken, f .enough)
 
-total-revision-requires : tie.Need-total-revision-requires
-total-revision-requires c κs = fits (c .before .before .before .before) .hasCells
-
 returns : tie.Need-returns
 returns c = refused (found (c .before .before .before) (c .before .refusal .given .1)) refl
 
@@ -38,7 +35,7 @@ same-length : tie.Need-same-length
 same-length c = search needs
 
 returns-2 : tie.Need-returns-2
-returns-2 c = accepted (fits (c .before .before .before .before .before)) (c .total-revision .ensures) (c .before .before .fill .ensures)
+returns-2 c = let f = c .before .fill .ensures in accepted (fits (c .before .before .before .before)) (f .1) (f .0)
 
 pub read-sheet-spec : {M : Type 1} → statement M
 read-sheet-spec =
@@ -48,7 +45,6 @@ read-sheet-spec =
     enum-known-refusal
     enum-known-count
     fill-requires
-    total-revision-requires
     returns
     same-length
     returns-2)

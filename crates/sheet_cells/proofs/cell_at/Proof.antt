@@ -43,17 +43,17 @@ add-kind c = search needs
 shared-slice-read-kind : tie.Need-shared-slice-read-kind
 shared-slice-read-kind c = search needs
 
-add-first : tie.Need-add-first
-add-first c = search needs
+add-first-at : tie.Need-add-first-at
+add-first-at c = search needs
 
-mul-first : tie.Need-mul-first
-mul-first c = search needs
+mul-first-at : tie.Need-mul-first-at
+mul-first-at c = search needs
 
-add-first-2 : tie.Need-add-first-2
-add-first-2 c = search needs
+add-first-at-2 : tie.Need-add-first-at-2
+add-first-at-2 c = search needs
 
-add-second : tie.Need-add-second
-add-second c = search needs
+add-second-at : tie.Need-add-second-at
+add-second-at c = search needs
 
 double-at-requires : tie.Need-double-at-requires
 double-at-requires c κs = search needs
@@ -119,10 +119,10 @@ cell-at-spec =
     (tie.spec
     add-kind
     shared-slice-read-kind
-    add-first
-    mul-first
-    add-first-2
-    add-second
+    add-first-at
+    mul-first-at
+    add-first-at-2
+    add-second-at
     double-at-requires
     double-at-requires-2
     returns

@@ -7,13 +7,13 @@ use borrow.Author.Needs.{needs}
 use Rattle.refusals.specs.declared.Verdict.{Verdict}
 use Rattle.sheet_cells.specs.CellChecks.{cellChecks}
 use Rattle.sheet_cells.specs.Contracts.{Says}
-use Rattle.members_sheet.specs.Contracts.{AllTaken}
+use Rattle.members_sheet.specs.Contracts.{AllAccepted}
 use Rattle.members_sheet.proofs.CheckingLaws.{taken-none, taken-more, stopped-here}
 use Rattle.members_sheet.proofs.checking.check_cells.Statement.{statement}
 use Rattle.members_sheet.proofs.checking.check_cells.Tie as tie
 
 abbrev Inv-loop : tie.InvT-loop
-Inv-loop sheet n t₀ t = (t ≤ n) × AllTaken sheet t
+Inv-loop sheet n t₀ t = (t ≤ n) × AllAccepted sheet t
 
 abbrev μ-loop : tie.MeasureT-loop
 μ-loop sheet n t₀ t = n - t
@@ -52,7 +52,7 @@ loop-again : tie.Need-loop-again Inv-loop μ-loop
 loop-again c = let k = c .before .before in let l = k .before .before in (omega arith, taken-more (l .loop .inv .1) (found k (c .enum-told .given .1)))
 
 returns-2 : tie.Need-returns-2 Inv-loop μ-loop
-returns-2 c = let l = c .before in subst (AllTaken (l .before .before .args .sheet .now)) (omega arith) (l .loop .inv .1)
+returns-2 c = let l = c .before in subst (AllAccepted (l .before .before .args .sheet .now)) (omega arith) (l .loop .inv .1)
 
 pub check-cells-spec : {M : Type 1} → statement M
 check-cells-spec =

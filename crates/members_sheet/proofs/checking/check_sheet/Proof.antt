@@ -17,7 +17,7 @@ use Rattle.desk_forms.proofs.FileLaws.{start-byte}
 use Rattle.sheet_cells.specs.Cells.{sizesLength, sheetLength}
 use Rattle.sheet_cells.specs.Contracts.{HasCells}
 use Rattle.members_sheet.specs.ReadSheet.{sheetChecks}
-use Rattle.members_sheet.specs.Contracts.{AllTaken, CellsSay}
+use Rattle.members_sheet.specs.Contracts.{AllAccepted, CellsSay}
 use Rattle.members_sheet.proofs.checking.check_sheet.Statement.{statement}
 use Rattle.members_sheet.proofs.checking.check_sheet.Tie as tie
 
@@ -148,7 +148,7 @@ returns-6 c =
     let s = from2 (a .before .before) in
     record {
       passed = before6 (a .before);
-      taken = subst (AllTaken (sheet s)) (sym (hasCells (a .before) .count)) (cells a (c .enum-told2 .given .1));
+      taken = subst (AllAccepted (sheet s)) (sym (hasCells (a .before) .count)) (cells a (c .enum-told2 .given .1));
       hasCells = hasCells (a .before);
       begins = sym (start-byte (sheet s));
       enough = omega (arith, a .before .if3 .left);

@@ -1,4 +1,4 @@
--- `members_sheet::filling::fill` meets its contract: the months before t are filled with the figures of their cells.
+-- `members_sheet::filling::fill` meets its contract: the months before t are filled with the figures of their cells, and the total is the sum over them.
 -- Assumes nothing.
 use Prim.Native.Nat.{ℕ, _+_, _-_, _≤_, _<_}
 use mathlib.Core.Path.{_≡_, sym, ap, subst, _∙_}
@@ -13,19 +13,22 @@ use mir.Facts.{toZ-ofZ}
 use Rattle.integers.specs.Filling.{Filled}
 use Rattle.integers.proofs.FillingLaws.{filled-none, filled-more, filled-front}
 use Rattle.doubles.specs.Doubles.{numberIn, counts}
+use Rattle.doubles.proofs.Exact.{zero-bits}
 use Rattle.sheet_cells.specs.declared.Imported.{Imported}
-use Rattle.sheet_cells.specs.Cells.{cellAt, newest}
+use Rattle.sheet_cells.specs.Cells.{cellAt, newest, revisedBy}
 use Rattle.sheet_cells.specs.Contracts.{withMonth}
 use Rattle.sheet_cells.proofs.CellLaws.{taken, newest-counts}
-use Rattle.members_sheet.specs.Series.{figuresIn}
+use Rattle.members_sheet.specs.Series.{figuresIn, summed}
+use Rattle.members_sheet.proofs.Sums.{summed-more}
 use Rattle.members_sheet.proofs.filling.fill.Statement.{statement}
 use Rattle.members_sheet.proofs.filling.fill.Tie as tie
 
 abbrev Inv-loop : tie.InvT-loop
-Inv-loop sheet n figures₀ t₀ figures t = (t ≤ n) × Filled (pos 0) (λ k. numberIn (newest (cellAt sheet k))) 0 t figures₀ figures
+Inv-loop sheet n figures₀ total₀ t₀ figures total t =
+    (t ≤ n) × Filled (pos 0) (λ k. numberIn (newest (cellAt sheet k))) 0 t figures₀ figures × (total ≡ summed sheet t)
 
 abbrev μ-loop : tie.MeasureT-loop
-μ-loop sheet n figures₀ t₀ figures t = n - t
+μ-loop sheet n figures₀ total₀ t₀ figures total t = n - t
 
 -- the parts of what a cell brings in
 months : {d : Imported} {t : ℕ} {x : Float} → d ≡ withMonth t x → d .month ≡ t
@@ -39,7 +42,8 @@ more-at : {f : ℕ → ℤ} {t m : ℕ} {v : ℤ} {old new : List ℤ} → Fille
 more-at {f} {t} {m} {v} {old} {new} p l e q = subst (λ (k : ℕ). Filled (pos 0) f 0 (t + 1) old (set new k v)) (sym e) (filled-more p (omega arith) l q)
 
 loop-holds : tie.Need-loop-holds Inv-loop μ-loop
-loop-holds c = (omega arith, filled-none)
+unfolding summed
+loop-holds c = (omega arith, filled-none, zero-bits)
 
 cell-at-requires : tie.Need-cell-at-requires Inv-loop μ-loop
 cell-at-requires c κs = (c .before .before .before .pre .0, omega arith)
@@ -55,11 +59,14 @@ number-of-requires c κs =
     ap counts (doubled (c .import .ensures) ∙ ap newest (c .before .cell-at .ensures))
     ∙ newest-counts (cellAt (s .args .sheet .now) t) (taken (s .args .sheet .now) t (s .pre .1 .each t (omega arith)))
 
-mul-t10 : tie.Need-mul-t10 Inv-loop μ-loop
-mul-t10 c = omega (arith, months (c .before .import .ensures))
+mul-t11 : tie.Need-mul-t11 Inv-loop μ-loop
+mul-t11 c = omega (arith, months (c .before .import .ensures))
 
 slice-set-from-figures : tie.Need-slice-set-from-figures Inv-loop μ-loop
 slice-set-from-figures c = omega (arith, months (c .before .import .ensures))
+
+with-revision-requires : tie.Need-with-revision-requires Inv-loop μ-loop
+with-revision-requires c κs = search needs
 
 add-t : tie.Need-add-t Inv-loop μ-loop
 add-t c = omega arith
@@ -69,10 +76,14 @@ loop-less c = omega arith
 
 loop-again : tie.Need-loop-again Inv-loop μ-loop
 loop-again c =
-    let i = c .before in
+    let v = c .before in
+    let i = v .before in
     let l = i .before .before .before in
-    let v = toZ-ofZ {w = w32} (sfits-of (c .number-of .ok)) ∙ c .number-of .ensures ∙ ap numberIn (doubled (i .import .ensures) ∙ ap newest (i .before .cell-at .ensures)) in
-    (omega arith, more-at (l .loop .inv .1) (omega arith) (months (i .import .ensures)) v)
+    let z = toZ-ofZ {w = w32} (sfits-of (v .number-of .ok)) ∙ v .number-of .ensures ∙ ap numberIn (doubled (i .import .ensures) ∙ ap newest (i .before .cell-at .ensures)) in (
+      omega arith,
+      more-at (l .loop .inv .1) (omega arith) (months (i .import .ensures)) z,
+      c .with-revision .ensures ∙ ap (revisedBy (l .loop .total)) (i .before .cell-at .ensures) ∙ summed-more _ (l .loop .t) (l .loop .inv .2),
+    )
 
 same-length : tie.Need-same-length Inv-loop μ-loop
 same-length c = c .before .loop .inv .1 .long
@@ -82,7 +93,10 @@ unfolding figuresIn
 returns c =
     let l = c .before in
     let s = l .before .before in
-    rw (← s .pre .0 .count) (filled-front (l .loop .inv .1) (omega arith) (omega (arith, s .pre .2)))
+    let e : l .loop .t ≡ s .args .n = omega arith in (
+      rw (← s .pre .0 .count) (filled-front (l .loop .inv .1) e (omega (arith, s .pre .2))),
+      l .loop .inv .2 ∙ ap (summed (s .args .sheet .now)) e,
+    )
 
 pub fill-spec : {M : Type 1} → statement M
 fill-spec =
@@ -94,8 +108,9 @@ fill-spec =
     cell-at-requires
     import-requires
     number-of-requires
-    mul-t10
+    mul-t11
     slice-set-from-figures
+    with-revision-requires
     add-t
     loop-less
     loop-again

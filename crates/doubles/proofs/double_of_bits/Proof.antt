@@ -1,4 +1,4 @@
--- `doubles::double_of` meets its contract: above the pattern of an infinity stands what is no number.
+-- `doubles::double_of_bits` meets its contract: above the pattern of an infinity stands what is no number.
 -- Assumes nothing.
 use Prim.Native.Nat.{ℕ, _%_}
 use mathlib.Core.Path.{_≡_, refl, sym, _∙_}
@@ -8,10 +8,10 @@ use borrow.Author.Tests.{le-ltb, lt-ltb}
 use lib.Ieee.{Float, nan, inf, fin, binary64, nanBits, ofBits, isNan, div}
 use lib.Ieee.Bits.{nanBits-above, nanBits-is}
 use Rattle.doubles.proofs.Exact.{no-true}
-use Rattle.doubles.proofs.double_of.Statement.{statement}
-use Rattle.doubles.proofs.double_of.Tie as tie
-use Rattle.doubles.proofs.double_of.Reads as reads
-use Rattle.doubles.proofs.double_of.Lts as lts
+use Rattle.doubles.proofs.double_of_bits.Statement.{statement}
+use Rattle.doubles.proofs.double_of_bits.Tie as tie
+use Rattle.doubles.proofs.double_of_bits.Reads as reads
+use Rattle.doubles.proofs.double_of_bits.Lts as lts
 
 only-nan : (x : Float) → isNan x ≡ true → x ≡ nan
 unfolding isNan
@@ -34,5 +34,5 @@ returns c = sym (no-number (c .before .args .bits) (nanBits-above binary64 (c .b
 returns-2 : tie.Need-returns-2
 returns-2 c = search needs
 
-pub double-of-spec : {M : Type 1} → statement M
-double-of-spec = tie.close (tie.spec float-from-bits-result returns returns-2)
+pub double-of-bits-spec : {M : Type 1} → statement M
+double-of-bits-spec = tie.close (tie.spec float-from-bits-result returns returns-2)

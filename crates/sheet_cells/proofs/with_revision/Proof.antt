@@ -1,11 +1,11 @@
--- `sheet_cells::revised` meets its contract: a revision adds new less old, any other cell nothing.
+-- `sheet_cells::with_revision` meets its contract: a revision adds new less old, any other cell nothing.
 -- Assumes nothing.
 use mathlib.Core.Path.{sym, ap, _∙_}
 use borrow.Author.Needs.{needs}
 use Rattle.sheet_cells.specs.declared.CellRead.the-variants.{Known}
 use Rattle.sheet_cells.specs.Cells.{revisedBy}
-use Rattle.sheet_cells.proofs.revised.Statement.{statement}
-use Rattle.sheet_cells.proofs.revised.Tie as tie
+use Rattle.sheet_cells.proofs.with_revision.Statement.{statement}
+use Rattle.sheet_cells.proofs.with_revision.Tie as tie
 
 enum-known-cell : tie.Need-enum-known-cell
 enum-known-cell c = search needs
@@ -36,8 +36,8 @@ returns-4 c =
     let k = c .before .before .before in
     ap (revisedBy (k .before .before .before .args .total)) (sym (k .before .cell .given .1 ∙ ap Known (c .before .known .given .1)))
 
-pub revised-spec : {M : Type 1} → statement M
-revised-spec =
+pub with-revision-spec : {M : Type 1} → statement M
+with-revision-spec =
     tie.close
     (tie.spec
     enum-known-cell
