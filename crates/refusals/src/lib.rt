@@ -48,48 +48,41 @@ pub enum Refusal {
     BadDouble(usize),
 }
 
-// The refusal's number on the sheet.
-pub fn number(r: Refusal) -> u8
-    ensures { λ n. ⌜ n ≡ row r .number ⌝ }
+// A row of the refusal sheet: its number, and the place that the refusal tells, 0 for those without one.
+struct Row(u8, usize);
+
+fn row_of(r: Refusal) -> Row
+    ensures { λ q. ⌜ (q .0 ≡ row r .number) × (q .1 ≡ row r .place) ⌝ }
 {
     match r {
-        Refusal::TooShort => 1,
-        Refusal::TooLong => 2,
-        Refusal::BadStart => 3,
-        Refusal::WrongLength => 4,
-        Refusal::FigureOutside(_) => 5,
-        Refusal::EmptyGroup => 6,
-        Refusal::NoHeader => 7,
-        Refusal::BadPeriod => 8,
-        Refusal::BadFileLength => 9,
-        Refusal::WeightAbove(_) => 10,
-        Refusal::BadYears => 11,
-        Refusal::MalformedCell(_) => 12,
-        Refusal::Gap(_) => 13,
-        Refusal::BadDouble(_) => 14,
+        Refusal::TooShort => Row(1, 0),
+        Refusal::TooLong => Row(2, 0),
+        Refusal::BadStart => Row(3, 0),
+        Refusal::WrongLength => Row(4, 0),
+        Refusal::FigureOutside(t) => Row(5, t),
+        Refusal::EmptyGroup => Row(6, 0),
+        Refusal::NoHeader => Row(7, 0),
+        Refusal::BadPeriod => Row(8, 0),
+        Refusal::BadFileLength => Row(9, 0),
+        Refusal::WeightAbove(t) => Row(10, t),
+        Refusal::BadYears => Row(11, 0),
+        Refusal::MalformedCell(t) => Row(12, t),
+        Refusal::Gap(t) => Row(13, t),
+        Refusal::BadDouble(t) => Row(14, t),
     }
 }
 
-// The place that the refusal tells, 0 for those without one.
+// The refusal's number, and its place.
+pub fn number(r: Refusal) -> u8
+    ensures { λ n. ⌜ n ≡ row r .number ⌝ }
+{
+    row_of(r).0
+}
+
 pub fn place(r: Refusal) -> usize
     ensures { λ t. ⌜ t ≡ row r .place ⌝ }
 {
-    match r {
-        Refusal::TooShort => 0,
-        Refusal::TooLong => 0,
-        Refusal::BadStart => 0,
-        Refusal::WrongLength => 0,
-        Refusal::FigureOutside(t) => t,
-        Refusal::EmptyGroup => 0,
-        Refusal::NoHeader => 0,
-        Refusal::BadPeriod => 0,
-        Refusal::BadFileLength => 0,
-        Refusal::WeightAbove(t) => t,
-        Refusal::BadYears => 0,
-        Refusal::MalformedCell(t) => t,
-        Refusal::Gap(t) => t,
-        Refusal::BadDouble(t) => t,
-    }
+    row_of(r).1
 }
 
 // Row 3: a start month that is not 1 to 12.
