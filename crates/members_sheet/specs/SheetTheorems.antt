@@ -23,12 +23,12 @@ use Rattle.members_sheet.specs.declared.SheetReading.{SheetReading}
 use Rattle.members_sheet.specs.ReadSheet.{SheetAccepted, sheetAccepted, sheetSays, SheetDone}
 
 -- ---- a sheet made from a series
--- a month as its member has it, in units: a figure, or a revision, the old figure and the new one
+-- METHOD 7.10: a month as its member has it, in units: a figure, or a revision, the old figure and the new one
 pub data Entry : Type 0 where
   figure : ℤ → Entry
   revised : (old new : ℤ) → Entry
 
--- its kind; the bits of its two doubles; the figure that counts; new less old
+-- METHOD 7.10: its kind, and the bits of its two doubles, of an unused one 0
 abbrev pub kindOf : Entry → ℕ
 kindOf (figure z) = 1
 kindOf (revised old new) = 2
@@ -41,6 +41,7 @@ abbrev pub secondBits : Entry → ℕ
 secondBits (figure z) = 0
 secondBits (revised old new) = toBits binary64 (doubleOf new)
 
+-- METHOD 7.12 and 7.13: its figure, the new one of a revision; new less old
 abbrev pub newestOf : Entry → ℤ
 newestOf (figure z) = z
 newestOf (revised old new) = new
@@ -57,7 +58,7 @@ cellsOf (e ∷ entries) = bytesOf 8 (firstBits e) ++ bytesOf 8 (secondBits e) ++
 unfoldable pub sheetOf : ℕ → List Entry → List ℕ
 sheetOf start entries = bytesOf 2 (length entries) ++ bytesOf 1 start ++ map kindOf entries ++ cellsOf entries
 
--- the month at t (past the end a figure of 0), and all revisions summed
+-- the month at t (past the end a figure of 0); METHOD 7.13: all revisions summed
 abbrev pub entryAt : List Entry → ℕ → Entry
 entryAt entries t = getD entries t (figure (pos 0))
 
