@@ -31,9 +31,9 @@
 /* The version of this header and of the library that goes with it (the library does not tell its own), major.minor.patch. The minor number
    goes up with every landing that changes what callers see, the patch number with every other; the major number is 0 while functions and
    constants may still change. */
-#define VEPSJALM_VERSION "0.16.0"
+#define VEPSJALM_VERSION "0.17.0"
 #define VEPSJALM_VERSION_MAJOR 0
-#define VEPSJALM_VERSION_MINOR 16
+#define VEPSJALM_VERSION_MINOR 17
 #define VEPSJALM_VERSION_PATCH 0
 
 /* The limits. */
@@ -48,7 +48,7 @@
 
 /* Entries of scratch for n months; bytes of a desk file for n months and of the longest, 3,604; the same by calendar month, 3,606, and of a
    members' sheet, 10,203. */
-#define VEPSJALM_SCRATCH_FOR(n) (8 * (n))
+#define VEPSJALM_SCRATCH_FOR(n) (5 * (n))
 #define VEPSJALM_FILE_LENGTH(n) (4 + 6 * (n))
 #define VEPSJALM_LONGEST_FILE VEPSJALM_FILE_LENGTH(VEPSJALM_MOST_MONTHS)
 #define VEPSJALM_COLUMNS_LENGTH(n) (6 + 6 * (n))
@@ -130,7 +130,7 @@ extern "C" {
    d10 to d13  exactly n entries each; filled with final seasonal, adjusted figure, final trend-cycle and final irregular, in thousandths
    b17, c17    exactly n entries each; filled with the weight of each month's irregular in the first pass and in the second, in thousandths:
                1,000 counts in full, 0 not at all, and what is below 1,000 was found extreme
-   scratch     at least 8n entries; success leaves the first 8n zero, and the rest as it was
+   scratch     at least 5n entries; success leaves the first 5n zero, and the rest as it was
    place       set to the refusal's place; 0 after success
 
    After success, in every month, d10 + d11 and d10 + d12 + d13 are each the figure times 1,000; and beside the last pass worked in exact
@@ -145,7 +145,7 @@ uint8_t vepsjalm_decompose(
 
 /* Decomposing with the lent slices in a struct instead of 18 arguments: vepsjalm_decompose, with n entries of each of d10 to d13, b17 and c17.
    That each has room for n is the caller's to see to (what is beyond stays as it was), so that VEPSJALM_WRONG_LENGTH is left for one thing,
-   a scratch of fewer than 8n entries. */
+   a scratch of fewer than 5n entries. */
 struct vepsjalm_slices {
     int64_t *d10, *d11, *d12, *d13;
     uint16_t *b17, *c17;

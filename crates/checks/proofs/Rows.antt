@@ -25,7 +25,8 @@ use Rattle.refusals.specs.declared.Verdict.{Verdict}
 use Rattle.refusals.specs.declared.Verdict.the-variants.{Refused}
 use Rattle.refusals.specs.declared.Found.the-variants.{At, Nowhere}
 use Rattle.refusals.specs.declared.Refusal.the-variants.{WrongLength, FigureOutside}
-use Rattle.checks.specs.Answer.{scratchFor, fitting, decomposeChecks, answerFor}
+use Rattle.scratch.specs.Scratch.{scratchFor}
+use Rattle.checks.specs.Answer.{fitting, decomposeChecks, answerFor}
 use Rattle.checks.specs.Contracts.{Fits, Accepts, Refuses, Checked}
 use Rattle.checks.specs.declared.Lengths.{Lengths}
 

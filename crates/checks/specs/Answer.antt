@@ -1,24 +1,21 @@
 -- METHOD 8: what decomposing answers. Of the lent slices it looks at their lengths only.
 use mathlib.Core.Bool.{Bool, not, _&&_, _||_}
 use mathlib.Core.List.{List, [], _∷_}
-use Prim.Native.Nat.{ℕ, _*_}
+use Prim.Native.Nat.{ℕ}
 use lib.Dec.{leb, eqb}
 use lib.ListN.{length}
 use lib.IntN.{ℤ}
 use Rattle.refusals.specs.Limits.{monthsOfYear}
 use Rattle.refusals.specs.Sheet.{Answer, success}
 use Rattle.refusals.specs.Checks.{Check, checkRow, row1, row2, row3, row5, firstToApply}
+use Rattle.scratch.specs.Scratch.{scratchFor}
 use Rattle.extremes.specs.Spreads.{sizesOf}
 use Rattle.extremes.specs.Weighing.{emptied}
 use Rattle.tables.specs.PassB.{startB4, irregularB4, irregularB9}
 use Rattle.tables.specs.Tables.{B1, B13, C13}
 use Rattle.checks.specs.declared.Lengths.{Lengths}
 
--- METHOD 8.3: the scratch has 8 n entries or more
-abbrev pub scratchFor : ℕ → ℕ
-scratchFor n = 8 * n
-
--- METHOD 8.3, row 4: D10 to D13, B17 and C17 have exactly n entries each, the scratch 8 n or more
+-- METHOD 8.3, row 4: D10 to D13, B17 and C17 have exactly n entries each, the scratch 5 n or more
 unfoldable pub fitting : ℕ → Lengths → Bool
 fitting n l =
     eqb (l .d10) n

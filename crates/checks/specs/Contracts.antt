@@ -8,12 +8,13 @@ use lib.ListN.{length}
 use lib.IntN.{ℤ}
 use Rattle.refusals.specs.Limits.{leastMonths, monthsOfYear}
 use Rattle.series.specs.Contracts.{Figures}
+use Rattle.scratch.specs.Scratch.{scratchFor}
 use Rattle.refusals.specs.Sheet.{row, success, refusal, refusalOf}
 use Rattle.refusals.specs.declared.Refusal.{Refusal}
 use Rattle.checks.specs.declared.Lengths.{Lengths}
 use Rattle.refusals.specs.declared.Verdict.{Verdict}
 use Rattle.refusals.specs.declared.Verdict.the-variants.{Fine, Refused}
-use Rattle.checks.specs.Answer.{scratchFor, groupEmptied, answerFor}
+use Rattle.checks.specs.Answer.{groupEmptied, answerFor}
 
 -- figures within the limits, as many as a series has, and a start month
 pub record Workable (start : ℕ) (f : List ℤ) : Type 0 where

@@ -42,7 +42,7 @@ fn fitting(n: usize, lent: Lengths) -> bool
     if lent.c17 != n {
         return false;
     }
-    8 * n <= lent.scratch
+    scratch::long_enough(n, lent.scratch)
 }
 
 // The first of rows 1 to 5 that applies.

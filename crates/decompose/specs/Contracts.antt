@@ -18,11 +18,10 @@ use Rattle.extremes.specs.declared.Weighed.{Weighed}
 use Rattle.extremes.specs.declared.Weighed.the-variants.{Weights}
 use Rattle.tables.specs.Tables.{choicesD, irregularOf, corrections, B17, C7, C10, C13, C17, D1, finalSeasonalFilter, finalTerms}
 use Rattle.tables.specs.Bounds.{largestC7, largestC10, largestD1}
-use Rattle.checks.specs.Answer.{scratchFor}
+use Rattle.scratch.specs.Scratch.{scratchFor, zeroed}
 use Rattle.checks.specs.Contracts.{Workable}
 use Rattle.decompose.specs.declared.Decomposed.{Decomposed}
 use Rattle.decompose.specs.declared.Decomposed.the-variants.{Tables}
-use Rattle.decompose.specs.Promise.{zeroed}
 
 -- the seasonal and the trend that a pass leaves to find extreme months by: B10 and B7, or C10 and C7
 pub record Correctable (start : ℕ) (f s t : List ℤ) : Type 0 where

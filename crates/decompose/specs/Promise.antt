@@ -1,17 +1,17 @@
 -- METHOD 8 and 10: what decomposing answers, and what it leaves in the lent slices, for all inputs.
 use mathlib.Core.Path.{_≡_}
 use mathlib.Core.Bool.{cond}
-use mathlib.Core.List.{List, _++_}
+use mathlib.Core.List.{List}
 use Prim.Native.Nat.{ℕ, _<_}
 use lib.Dec.{eqb}
-use lib.ListN.{length, drop}
-use lib.IntN.{ℤ, pos}
-use Rattle.integers.specs.Lists.{tab}
+use lib.ListN.{length}
+use lib.IntN.{ℤ}
 use Rattle.refusals.specs.Sheet.{Answer, success, refusal, refusalOf}
 use Rattle.tables.specs.Tables.{B1, B17, C17, D1, finalSeasonalFilter, D10, D11, finalTerms, D12, D13}
 use Rattle.tables.specs.Nearness.{PassesNear, NearAt}
 use Rattle.checks.specs.declared.Lengths.{Lengths}
-use Rattle.checks.specs.Answer.{scratchFor, answerFor}
+use Rattle.scratch.specs.Scratch.{zeroed}
+use Rattle.checks.specs.Answer.{answerFor}
 use Rattle.decompose.specs.declared.Decomposed.{Decomposed}
 use Rattle.decompose.specs.declared.Decomposed.the-variants.{Tables, Refused}
 
@@ -46,10 +46,6 @@ says (Refused r) = refusalOf r
 -- METHOD 8.2: the first row that applies, else the tables; the slices count by their lengths alone
 unfoldable pub answer : ℕ → List ℤ → Slices → Answer Unit
 answer start figures lent = answerFor start figures (lengthsOf lent)
-
--- METHOD 8.4: the scratch with its first 8 n entries zero and the rest of it as it was
-unfoldable pub zeroed : ℕ → List ℤ → List ℤ
-zeroed n scratch = tab (scratchFor n) (λ _. pos 0) ++ drop (scratchFor n) scratch
 
 -- METHOD 8.4: what the slices hold after an answer: the tables, the weights and a zeroed scratch; a refusal touches none of them, but that 6 would
 -- leave the scratch as success does

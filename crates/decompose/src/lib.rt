@@ -5,10 +5,9 @@ ghost use lib.ListN.{length};
 ghost use Rattle.refusals.specs.Limits.{unit, mostMonths};
 ghost use Rattle.series.specs.Operations.{times};
 ghost use Rattle.tables.specs.Tables.{B17, C1, C17, D1};
-ghost use Rattle.checks.specs.Answer.{scratchFor};
 ghost use Rattle.checks.specs.Contracts.{Workable};
 ghost use Rattle.decompose.specs.Contracts.{Correctable, WorkSlices, WeightSlices, Scratch, ExtremesCorrected, CorrectedTo, ChoiceTables, Corrected, Final, Finished, PassesDone};
-ghost use Rattle.decompose.specs.Promise.{zeroed, Promise};
+ghost use Rattle.decompose.specs.Promise.{Promise};
 use checks::Lengths;
 use extremes::Weighed;
 use refusals::Refusal;
@@ -129,14 +128,6 @@ fn final_tables(
     series::minus(d11, d12, d13);
 }
 
-// METHOD 8.4: the first 8n entries of the scratch become 0.
-fn clear(scratch: &mut [i64], n: usize)
-    requires { ⌜ (n ≤ mostMonths) × (scratchFor n ≤ length (now scratch)) ⌝ }
-    ensures { λ _. ⌜ now (scratch .exit) ≡ zeroed n (now (scratch .entry)) ⌝ }
-{
-    series::zero_front(scratch, 8 * n);
-}
-
 // The three passes, X standing at the front of the scratch. The answers for B13 and C13 are looked at; no weighing ever empties a group (METHOD 5.8).
 fn three_passes(
     figures: &[i32],
@@ -167,13 +158,13 @@ fn three_passes(
         c17,
     );
     let Weighed::Weights = weighed else {
-        clear(scratch, n);
+        scratch::clear(scratch, n);
         return Decomposed::Refused(Refusal::EmptyGroup);
     };
     let chosen = seasonal_choice::chosen_filter(d11, d13);
     let terms = trend_length::trend_length(d11, d12);
     final_tables(figures, &scratch[..n], chosen, terms, d10, d11, d12, d13);
-    clear(scratch, n);
+    scratch::clear(scratch, n);
     Decomposed::Tables
 }
 

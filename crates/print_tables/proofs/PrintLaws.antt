@@ -19,7 +19,7 @@ use Rattle.desk_file.proofs.Answers.{read-sized}
 use Rattle.decompose.specs.declared.Decomposed.{Decomposed}
 use Rattle.decompose.specs.declared.Decomposed.the-variants.{Tables, Refused}
 use Rattle.decompose.specs.Promise.{Slices, Promise, answer, after, says, lengthsOf}
-use Rattle.checks.specs.Answer.{scratchFor}
+use Rattle.scratch.specs.Scratch.{scratchFor}
 use Rattle.decimals.specs.Storing.{Stored}
 use Rattle.print_lines.specs.Text.{refusedLine, tablesText, textRoom}
 use Rattle.print_tables.specs.Printed.{lentFor, seriesAnswer, tablesOf, decomposedText, seriesText, unreadText, readText, printed, PrintDone}

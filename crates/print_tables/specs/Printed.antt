@@ -8,9 +8,10 @@ use Rattle.refusals.specs.Limits.{mostMonths}
 use Rattle.refusals.specs.Sheet.{Answer, success, refusal}
 use Rattle.desk_forms.specs.File.{seriesIn}
 use Rattle.desk_file.specs.ReadFile.{Accepted, readAnswer}
+use Rattle.scratch.specs.Scratch.{scratchFor}
 use Rattle.checks.specs.declared.Lengths.{Lengths}
 use Rattle.tables.specs.Tables.{C17, D10, D11, D12, D13}
-use Rattle.checks.specs.Answer.{answerFor, scratchFor}
+use Rattle.checks.specs.Answer.{answerFor}
 use Rattle.print_lines.specs.Text.{refusedLine, SeriesTables, tablesText}
 
 -- the slices lent for n months: each n long, the scratch long enough for the longest series

@@ -22,7 +22,7 @@ fn put_series(out: &mut [u8], start: u8, figures: &[i32]) -> usize
     let mut d13 = [0i64; refusals::MOST_MONTHS];
     let mut b17 = [0u16; refusals::MOST_MONTHS];
     let mut c17 = [0u16; refusals::MOST_MONTHS];
-    let mut scratch = [0i64; 8 * refusals::MOST_MONTHS];
+    let mut scratch = [0i64; scratch::FOR_EACH_MONTH * refusals::MOST_MONTHS];
     let answer = decompose::decompose(
         figures,
         start,

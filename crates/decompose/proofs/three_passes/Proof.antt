@@ -1,16 +1,15 @@
 -- `decompose::three_passes` meets its contract: the front of the scratch holds D1, and is zeroed at the end.
 -- Assumes nothing.
 use Prim.Native.Nat.{ℕ, _≤_}
-use mathlib.Core.Path.{_≡_, refl, sym, ap, _∙_}
+use mathlib.Core.Path.{_≡_, refl, sym, _∙_}
 use mathlib.Core.List.{List, _++_}
 use native.Mathlib.Omega.{arith}
 use lib.ListN.{length, take, drop}
-use lib.IntN.{ℤ, pos}
-use Rattle.integers.specs.Lists.{tab}
-use Rattle.integers.proofs.Fronts.{front-long, front-back, front-kept, front-rest}
+use lib.IntN.{ℤ}
+use Rattle.integers.proofs.Fronts.{front-long, front-back, front-kept}
 use Rattle.tables.specs.Tables.{D1}
-use Rattle.checks.specs.Answer.{scratchFor}
-use Rattle.decompose.specs.Promise.{zeroed}
+use Rattle.scratch.specs.Scratch.{zeroed}
+use Rattle.scratch.proofs.ScratchLaws.{front-zeroed}
 use Rattle.decompose.proofs.Passes.{final, measurable, final-terms, choosable, final-seasonal, by-names, not-both}
 use borrow.Author.Needs.{needs}
 use Rattle.decompose.proofs.three_passes.Statement.{statement}
@@ -40,8 +39,7 @@ module _ (q : tie.After-corrected-series) where
   kept = front-kept n (s .args .scratch .now) room x same
 
   cleared : zeroed n (x ++ drop n (s .args .scratch .now)) ≡ zeroed n (s .args .scratch .now)
-  unfolding zeroed
-  cleared = ap (λ (l : List ℤ). tab (scratchFor n) (λ _. pos 0) ++ l) (front-rest n (s .args .scratch .now) room x same (scratchFor n) (omega arith))
+  cleared = front-zeroed n (s .args .scratch .now) room x same
 
 -- the corrected series, from after the filter and the length are chosen
 abbrev before-filter : tie.After-chosen-filter → tie.After-corrected-series

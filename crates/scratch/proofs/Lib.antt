@@ -1,0 +1,3 @@
+-- Laws of the scratch, and the example of METHOD.
+pub mod ScratchLaws
+pub mod Examples
