@@ -72,11 +72,11 @@ fn read(file: &[u8]) -> Result<(Vec<i32>, u8), (u8, usize)> {
 fn tables(figures: &[i32], start: u8) -> Result<String, (u8, usize)> {
     let n = figures.len();
     let (mut d10, mut d11, mut d12, mut d13) = (vec![0; n], vec![0; n], vec![0; n], vec![0; n]);
-    let (mut b17, mut c17, mut scratch, mut place) = (vec![0; n], vec![0; n], vec![0; 8 * n], 0);
+    let (mut b17, mut c17, mut scratch, mut place) = (vec![0; n], vec![0; n], vec![0; 5 * n], 0);
     let number = unsafe {
         vepsjalm_decompose(figures.as_ptr(), n, start,
             d10.as_mut_ptr(), n, d11.as_mut_ptr(), n, d12.as_mut_ptr(), n, d13.as_mut_ptr(), n,
-            b17.as_mut_ptr(), n, c17.as_mut_ptr(), n, scratch.as_mut_ptr(), 8 * n, &mut place)
+            b17.as_mut_ptr(), n, c17.as_mut_ptr(), n, scratch.as_mut_ptr(), scratch.len(), &mut place)
     };
     if number != 0 {
         return Err((number, place));

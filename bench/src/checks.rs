@@ -4,6 +4,11 @@ use crate::Answer;
 
 pub const FIGURE_LIMIT: i32 = 200_000;
 
+/// Entries of scratch that n months ask for.
+pub fn scratch_for(n: usize) -> usize {
+    5 * n
+}
+
 /// The first of rows 1 to 3 that applies, 0 if none does.
 pub fn span(n: usize, start: u8) -> u8 {
     if n < 72 {
@@ -24,7 +29,7 @@ pub fn check(figures: &[i32], start: u8, tables: [usize; 6], scratch: usize) -> 
     if row != 0 {
         return (row, 0);
     }
-    if tables != [n; 6] || scratch < 8 * n {
+    if tables != [n; 6] || scratch < scratch_for(n) {
         return (4, 0);
     }
     // All figures are looked at together; the place is searched only if one is outside.

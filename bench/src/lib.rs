@@ -31,7 +31,7 @@ impl Lent {
             d13: table,
             b17: weights.clone(),
             c17: weights,
-            scratch: vec![value; 8 * n],
+            scratch: vec![value; checks::scratch_for(n)],
         }
     }
 

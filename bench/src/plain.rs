@@ -3,7 +3,7 @@
 //! weight once for a month's run, only what leaves the sums when a year is set aside. Tables are in grains. It works in the tables that the
 //! caller lends and the front of the scratch; of its own it has the sizes of the months, the sums of the years and the places of a run.
 
-use crate::checks::check;
+use crate::checks::{check, scratch_for};
 use crate::{Answer, Lent};
 
 const UNIT: i64 = 1000;
@@ -463,6 +463,6 @@ pub fn decompose_told(figures: &[i32], start: u8, lent: &mut Lent) -> (Answer, T
         }
         told = ((0, 0), Told { trend: [i, c], seasonal });
     }
-    scratch[..8 * n].fill(0);
+    scratch[..scratch_for(n)].fill(0);
     told
 }
