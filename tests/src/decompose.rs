@@ -64,6 +64,12 @@ pub fn check_weights(weights: &[u16]) -> Result<(), Refusal> {
     Ok(())
 }
 
+/// The entries of scratch that n months ask for.  Success leaves them zero,
+/// and the rest of the scratch as it was.
+pub fn scratch_for(n: usize) -> usize {
+    5 * n
+}
+
 /// The lengths of the slices lent to a decomposing program.
 #[derive(Clone, Copy, Debug, PartialEq, Eq)]
 pub struct Lent {
@@ -79,12 +85,12 @@ pub struct Lent {
 impl Lent {
     /// What is just right for n months.
     pub fn right_for(n: usize) -> Lent {
-        Lent { d10: n, d11: n, d12: n, d13: n, b17: n, c17: n, scratch: 8 * n }
+        Lent { d10: n, d11: n, d12: n, d13: n, b17: n, c17: n, scratch: scratch_for(n) }
     }
 
     fn is_right_for(&self, n: usize) -> bool {
         let exact = [self.d10, self.d11, self.d12, self.d13, self.b17, self.c17];
-        exact.iter().all(|&length| length == n) && self.scratch >= 8 * n
+        exact.iter().all(|&length| length == n) && self.scratch >= scratch_for(n)
     }
 }
 

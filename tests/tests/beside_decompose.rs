@@ -2,8 +2,8 @@
 
 mod proved;
 
-use proved::beside;
-use separate::decompose::Lent;
+use proved::{beside, Answer};
+use separate::decompose::{decompose_fitting, scratch_for, Lent};
 use separate::exact::{exact_working, FourDistances};
 use separate::generators::{cases, Dice};
 
@@ -12,7 +12,7 @@ fn every_made_up_series() {
     let mut worked = 0;
     for case in cases() {
         let n = case.figures.len();
-        let lengths = Lent { scratch: 8 * n + worked % 3, ..Lent::right_for(n) };
+        let lengths = Lent { scratch: scratch_for(n) + worked % 3, ..Lent::right_for(n) };
         let (_, tables) = beside::decompose(&case.name, &case.figures, case.start, &lengths);
         let tables = tables.expect("an allowed series");
         // The distances of the tables that came out, from the exact fractions.
@@ -59,7 +59,7 @@ fn limits_of_the_length() {
 fn lengths_far_off() {
     let n = 75;
     let right = Lent::right_for(n);
-    for length in [0, 1, 8 * n, 9 * n] {
+    for length in [0, 1, 5 * n, 9 * n] {
         for lengths in [
             Lent { d10: length, ..right },
             Lent { d11: length, ..right },
@@ -67,10 +67,60 @@ fn lengths_far_off() {
             Lent { d13: length, ..right },
             Lent { b17: length, ..right },
             Lent { c17: length, ..right },
-            Lent { scratch: length, ..right },
         ] {
             beside::decompose("lengths", &vec![100; n], 3, &lengths);
         }
+    }
+}
+
+fn wavy(n: usize) -> Vec<i32> {
+    (0..n as i32).map(|t| t * t % 97 * 11 - 40 * (t % 12) + t % 29 / 28 * 50_000).collect()
+}
+
+/// At least 5n entries of scratch: those are zero afterwards, all others stay.
+#[test]
+fn lengths_of_the_scratch() {
+    for n in [72, 73, 75, 131, 600] {
+        let too_few = [0, 1, n, 4 * n, 5 * n - 1].map(|scratch| (scratch, (4, 0)));
+        let enough = [5 * n, 5 * n + 1, 8 * n - 1, 8 * n, 8 * n + 1, 9 * n].map(|scratch| (scratch, (0, 0)));
+        for (scratch, answer) in too_few.into_iter().chain(enough) {
+            let (name, lengths) = (format!("{n} months, scratch of {scratch}"), Lent { scratch, ..Lent::right_for(n) });
+            assert_eq!(beside::decompose(&name, &wavy(n), 7, &lengths).0, answer, "{name}");
+        }
+    }
+}
+
+/// Decomposes one series on scratches of 5n and of 8n that hold marks, or one value, before: all give what is due, so all the same.
+fn on_every_scratch(name: &str, figures: &[i32], start: u8) -> Answer {
+    let n = figures.len();
+    let due = decompose_fitting(figures, start);
+    for scratch in [5 * n, 8 * n] {
+        let marked = beside::lent_for(&Lent { scratch, ..Lent::right_for(n) });
+        beside::decompose_on(&format!("{name}, scratch of {scratch}, marked"), figures, start, &marked, &due);
+        for value in [0, i64::MIN, i64::MAX] {
+            let mut filled = marked.clone();
+            filled.guarded.fill(value);
+            beside::decompose_on(&format!("{name}, scratch of {scratch}, all {value}"), figures, start, &filled, &due);
+        }
+    }
+    due.map_or_else(|refusal| (refusal.number, refusal.place), |_| (0, 0))
+}
+
+#[test]
+fn every_made_up_series_on_every_scratch() {
+    for case in cases() {
+        assert_eq!(on_every_scratch(&case.name, &case.figures, case.start), (0, 0), "{}", case.name);
+    }
+}
+
+#[test]
+fn refusals_on_every_scratch() {
+    let mut outside = wavy(72);
+    outside[44] = 200_001;
+    for (figures, start, answer) in
+        [(wavy(71), 1, (1, 0)), (wavy(601), 1, (2, 0)), (wavy(72), 13, (3, 0)), (outside, 1, (5, 44))]
+    {
+        assert_eq!(on_every_scratch(&format!("{} months from {start}", figures.len()), &figures, start), answer);
     }
 }
 

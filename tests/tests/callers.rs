@@ -1,9 +1,9 @@
 //! The examples in C and Rust, built and run by the commands of their headings, beside the separately written program; and the C header: its
 //! constants beside the limits and refusals, its texts, its functions for both forms of the desk file, and the call with a struct beside the
-//! plain one.
+//! plain one, on scratches of several lengths.
 
 use separate::columns::{self, from_columns, read_columns, to_columns, write_columns, EARLIEST_YEAR, LATEST_YEAR};
-use separate::decompose::{decompose, decompose_fitting, Lent, Refusal, Tables, FEWEST_MONTHS, FIGURE_LIMIT, MOST_MONTHS};
+use separate::decompose::{decompose, decompose_fitting, scratch_for, Lent, Refusal, Tables, FEWEST_MONTHS, FIGURE_LIMIT, MOST_MONTHS};
 use separate::desk::{bytes_of, read, write, DeskSeries};
 use separate::generators::book_series;
 use separate::sheet::{self, read_sheet, Cell, SheetSeries};
@@ -14,7 +14,7 @@ use std::path::{Path, PathBuf};
 use std::process::{Command, Output, Stdio};
 use std::sync::LazyLock;
 
-const VERSION: [usize; 3] = [0, 16, 0];
+const VERSION: [usize; 3] = [0, 17, 0];
 
 /// The words of the refusal sheet by number, and those for every other number.
 const TEXTS: [&str; 15] = [
@@ -737,7 +737,7 @@ fn constants() -> Vec<(&'static str, usize)> {
         ("FULL_WEIGHT", series(72).unwrap().c17[0].into()),
         ("EARLIEST_YEAR", EARLIEST_YEAR),
         ("LATEST_YEAR", LATEST_YEAR),
-        ("SCRATCH_FOR(71 + 1)", right.scratch),
+        ("SCRATCH_FOR(71 + 1)", scratch_for(72)),
         ("FILE_LENGTH(71 + 1)", length(72)),
         ("LONGEST_FILE", length(MOST_MONTHS)),
         ("COLUMNS_LENGTH(71 + 1)", columns_length(72)),
@@ -875,18 +875,24 @@ fn series_with_scratch() -> Vec<(Vec<i32>, u8, usize)> {
     let mut outside = wavy(72);
     outside[44] = -200_001;
     vec![
+        // 5n entries, 8n, and far more.
+        (wavy(72), 1, 360),
         (wavy(72), 1, 576),
         (wavy(72), 12, 5600),
+        (book_series(), 10, 570),
         (book_series(), 10, 912),
+        (wavy(600), 7, 3000),
         (wavy(600), 7, 4800),
         (vec![], 1, 0),
-        (wavy(71), 13, 568),
+        (wavy(71), 13, 355),
         (wavy(601), 1, 0),
         (wavy(72), 0, 0),
-        (outside.clone(), 13, 576),
-        (outside.clone(), 1, 575),
+        (outside.clone(), 13, 360),
+        (outside.clone(), 1, 359),
+        (wavy(600), 7, 2999),
         (wavy(72), 1, 0),
-        (outside, 1, 577),
+        (outside.clone(), 1, 361),
+        (outside, 1, 576),
     ]
 }
 
@@ -897,10 +903,11 @@ fn struct_beside_the_plain_call() {
         let listed: Vec<String> = figures.iter().map(i32::to_string).collect();
         input += &format!("{} {start} {scratch}\n{}\n", figures.len(), listed.join(" "));
         let lent = Lent { scratch, ..Lent::right_for(figures.len()) };
-        let (number, place) = decompose(&figures, start, &lent).map_or_else(|r| (r.number, r.place), |_| (0, 0));
-        lines += &format!("{number} {place}, {number} {place}, alike\n");
+        let (number, place, zeros) =
+            decompose(&figures, start, &lent).map_or_else(|r| (r.number, r.place, 0), |_| (0, 0, scratch_for(figures.len())));
+        lines += &format!("{number} {place}, {number} {place}, alike, {zeros} zero, the rest marked\n");
     }
-    for (row, count) in [(0, 4), (1, 2), (2, 1), (3, 2), (4, 2), (5, 1)] {
+    for (row, count) in [(0, 7), (1, 2), (2, 1), (3, 2), (4, 3), (5, 2)] {
         assert_eq!(lines.lines().filter(|line| line.starts_with(&format!("{row} "))).count(), count, "row {row}");
     }
     for language in languages() {

@@ -6,7 +6,7 @@ mod proved;
 
 use ladder::{every_set, figures, longer, weights, Part, AT_LEAST, COUNT, FIGURES, FITTING, LENGTH, PERIOD, WEIGHTS};
 use proved::beside;
-use separate::decompose::Lent;
+use separate::decompose::{scratch_for, Lent};
 use separate::desk::bytes_of;
 
 // The order of the checks. Row 6 never applies.
@@ -22,7 +22,7 @@ fn decomposing() {
     every_set(&DECOMPOSING, parts, |name, [count, start, bad, d10, d11, d12, d13, b17, c17, scratch]| {
         let n = count as usize;
         let [d10, d11, d12, d13, b17, c17] = [d10, d11, d12, d13, b17, c17].map(|by| longer(n, by));
-        let lent = Lent { d10, d11, d12, d13, b17, c17, scratch: longer(8 * n, scratch) };
+        let lent = Lent { d10, d11, d12, d13, b17, c17, scratch: longer(scratch_for(n), scratch) };
         beside::decompose(name, &figures(n, bad), start as u8, &lent).0
     });
 }

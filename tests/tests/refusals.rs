@@ -48,9 +48,18 @@ fn row_4_lent_slices() {
             assert_eq!(decompose(&figures(n), 1, &wrong).unwrap_err(), refusal(4, 0));
         }
     }
-    assert_eq!(decompose(&figures(n), 1, &Lent { scratch: 8 * n - 1, ..right }).unwrap_err(), refusal(4, 0));
-    assert!(decompose(&figures(n), 1, &Lent { scratch: 8 * n, ..right }).is_ok());
-    assert!(decompose(&figures(n), 1, &Lent { scratch: 8 * n + 1000, ..right }).is_ok());
+}
+
+#[test]
+fn row_4_scratch() {
+    let n = 72;
+    let with = |scratch| decompose(&figures(n), 1, &Lent { scratch, ..Lent::right_for(n) });
+    assert_eq!(with(5 * n - 1), Err(refusal(4, 0)));
+    let tables = decompose_fitting(&figures(n), 1);
+    assert!(tables.is_ok());
+    for scratch in [5 * n, 5 * n + 1000, 8 * n] {
+        assert_eq!(with(scratch), tables);
+    }
 }
 
 #[test]

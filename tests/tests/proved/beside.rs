@@ -4,35 +4,41 @@
 // Each test file takes some of them.
 #![allow(dead_code)]
 
-use super::{Answer, Slices};
-use separate::decompose::{Lent, Refusal, Tables};
+use super::{Answer, Slices, GUARD};
+use separate::decompose::{scratch_for, Lent, Refusal, Tables};
 
-/// Slices of the wanted lengths, filled so that an untouched entry is seen.
-fn lent_for(lent: &Lent) -> Slices {
+/// Slices of the wanted lengths. Each entry has a mark of its own, so that one that is touched or moved is seen.
+pub fn lent_for(lent: &Lent) -> Slices {
+    let marks = |first: i64, length: usize| -> Vec<i64> { (first..).take(length).collect() };
+    let weights = |first: u16, length: usize| -> Vec<u16> { (first..).take(length).collect() };
     Slices {
-        d10: vec![71; lent.d10],
-        d11: vec![72; lent.d11],
-        d12: vec![73; lent.d12],
-        d13: vec![74; lent.d13],
-        b17: vec![75; lent.b17],
-        c17: vec![76; lent.c17],
-        scratch: vec![77; lent.scratch],
+        d10: marks(71_000_000_000, lent.d10),
+        d11: marks(72_000_000_000, lent.d11),
+        d12: marks(73_000_000_000, lent.d12),
+        d13: marks(74_000_000_000, lent.d13),
+        b17: weights(20_000, lent.b17),
+        c17: weights(40_000, lent.c17),
+        guarded: marks(77_000_000_000, GUARD + lent.scratch + GUARD),
     }
 }
 
 /// Decomposes one series, with slices of the wanted lengths; the separately written tables too, where there are any.
 pub fn decompose(name: &str, figures: &[i32], start: u8, lengths: &Lent) -> (Answer, Option<Tables>) {
-    let before = lent_for(lengths);
+    let due = separate::decompose::decompose(figures, start, lengths);
+    let answer = decompose_on(name, figures, start, &lent_for(lengths), &due);
+    (answer, due.ok())
+}
+
+/// Decomposes one series on slices that hold what `before` does, and compares with what is due.
+pub fn decompose_on(name: &str, figures: &[i32], start: u8, before: &Slices, due: &Result<Tables, Refusal>) -> Answer {
     let mut slices = before.clone();
     let answer = super::decompose(figures, start, &mut slices);
-    match separate::decompose::decompose(figures, start, lengths) {
+    match due {
         Err(Refusal { number, place }) => {
-            assert_eq!(answer, (number, place), "{name}");
-            assert_eq!(slices, before, "{name}: a refusal changes no slice");
-            (answer, None)
+            assert_eq!(answer, (*number, *place), "{name}");
+            assert!(slices == *before, "{name}: a refusal changes no slice");
         }
         Ok(tables) => {
-            let n = figures.len();
             assert_eq!(answer, (0, 0), "{name}");
             assert_eq!(slices.d10, tables.d10, "{name} D10");
             assert_eq!(slices.d11, tables.d11, "{name} D11");
@@ -40,11 +46,13 @@ pub fn decompose(name: &str, figures: &[i32], start: u8, lengths: &Lent) -> (Ans
             assert_eq!(slices.d13, tables.d13, "{name} D13");
             assert_eq!(slices.b17, tables.b17, "{name} B17");
             assert_eq!(slices.c17, tables.c17, "{name} C17");
-            assert!(slices.scratch[..8 * n].iter().all(|&v| v == 0), "{name}: the scratch is zeroed");
-            assert_eq!(slices.scratch[8 * n..], before.scratch[8 * n..], "{name}: its tail stays");
-            (answer, Some(tables))
+            let mut guarded = before.guarded.clone();
+            guarded[GUARD..GUARD + scratch_for(figures.len())].fill(0);
+            let wrong = (0..guarded.len()).find(|&place| slices.guarded[place] != guarded[place]);
+            assert_eq!(wrong, None, "{name}: the scratch is zeroed; its tail and {GUARD} entries before and behind it stay");
         }
     }
+    answer
 }
 
 /// Reads one byte string, into slices of the wanted lengths.

@@ -2,6 +2,8 @@
 
 pub mod beside;
 
+use separate::decompose::MOST_MONTHS;
+
 extern "C" {
     fn vepsjalm_decompose(
         figures: *const i32, n: usize, start: u8,
@@ -18,6 +20,9 @@ extern "C" {
     ) -> u8;
 }
 
+/// Entries on each side of the scratch that are not lent: three for each month, as many as 8n has more than 5n.
+pub const GUARD: usize = 3 * MOST_MONTHS;
+
 /// The slices that are lent to decomposing.
 #[derive(Clone, Debug, PartialEq, Eq)]
 pub struct Slices {
@@ -27,7 +32,8 @@ pub struct Slices {
     pub d13: Vec<i64>,
     pub b17: Vec<u16>,
     pub c17: Vec<u16>,
-    pub scratch: Vec<i64>,
+    /// The scratch with its guards.
+    pub guarded: Vec<i64>,
 }
 
 /// Number (0 for success) and place.
@@ -35,14 +41,16 @@ pub type Answer = (u8, usize);
 
 pub fn decompose(figures: &[i32], start: u8, lent: &mut Slices) -> Answer {
     let mut place = usize::MAX;
-    // Each pointer goes with the length of the vector that it comes from, and no two overlap.
+    let end = lent.guarded.len() - GUARD;
+    let scratch = &mut lent.guarded[GUARD..end];
+    // Each pointer goes with the length of the vector or slice that it comes from, and no two overlap.
     let number = unsafe {
         vepsjalm_decompose(
             figures.as_ptr(), figures.len(), start,
             lent.d10.as_mut_ptr(), lent.d10.len(), lent.d11.as_mut_ptr(), lent.d11.len(),
             lent.d12.as_mut_ptr(), lent.d12.len(), lent.d13.as_mut_ptr(), lent.d13.len(),
             lent.b17.as_mut_ptr(), lent.b17.len(), lent.c17.as_mut_ptr(), lent.c17.len(),
-            lent.scratch.as_mut_ptr(), lent.scratch.len(), &mut place,
+            scratch.as_mut_ptr(), scratch.len(), &mut place,
         )
     };
     (number, place)
