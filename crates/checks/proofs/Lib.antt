@@ -1,2 +1,3 @@
--- Laws of rows 1 to 5.
+-- Laws of rows 1 to 5, and examples of row 4.
 pub mod Rows
+pub mod Examples

@@ -22,7 +22,8 @@ use Rattle.tables.specs.Tables.{choicesD, B1, B13, C13, D1, finalSeasonalFilter
 use Rattle.tables.specs.PassB.{startB4, irregularB4, irregularB9}
 use Rattle.tables.proofs.Sizes.{length-b1, length-irregularB4, length-irregularB9, length-b13, length-c13}
 use Rattle.tables.proofs.Nearness.{passes-near, near-at}
-use Rattle.checks.specs.Answer.{groupEmptied}
+use Rattle.checks.specs.declared.Lengths.{Lengths}
+use Rattle.checks.specs.Answer.{groupEmptied, answerFor}
 use Rattle.checks.specs.Contracts.{Workable, Accepts, Refuses}
 use Rattle.decompose.specs.Promise.{Slices, lengthsOf, says, answer, after, Promise}
 use Rattle.decompose.specs.Contracts.{PassesDone}
@@ -66,9 +67,13 @@ made-is s = refl
 same : (s t : Slices) → s .d10 ≡ t .d10 → s .d11 ≡ t .d11 → s .d12 ≡ t .d12 → s .d13 ≡ t .d13 → s .b17 ≡ t .b17 → s .c17 ≡ t .c17 → s .scratch ≡ t .scratch → s ≡ t
 same s t a b c d e f g = sym (made-is s) ∙ rw (a, b, c, d, e, f, g) (made-is t)
 
+-- they are the answer where rows 1 to 5 do not apply
+pub tables-answered : {start : ℕ} {f : List ℤ} {l : Lengths} → Accepts start f l → answerFor start f l ≡ success tt
+tables-answered h = h .answer-is ∙ rw (not-emptied (h .workable))
+
 answer-is : {start : ℕ} {f : List ℤ} (lent : Slices) → Accepts start f (lengthsOf lent) → answer start f lent ≡ success tt
 unfolding answer
-answer-is lent h = h .answer-is ∙ rw (not-emptied (h .workable))
+answer-is lent h = tables-answered h
 
 module _ (start : ℕ) (f : List ℤ) where
   d10-is : S2 (choicesD (finalSeasonalFilter start f)) (D1 start f) ≡ D10 start f

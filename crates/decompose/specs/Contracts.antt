@@ -31,18 +31,20 @@ pub record Correctable (start : ℕ) (f s t : List ℤ) : Type 0 where
   pub s-small : AllWithin largestC10 s
   pub t-small : AllWithin largestC7 t
 
--- four slices to work in; those for both sets of weights; the scratch
+-- four slices to work in, each as long as the figures
 pub record WorkSlices (f a b t s : List ℤ) : Type 0 where
   pub a-long : length a ≡ length f
   pub b-long : length b ≡ length f
   pub t-long : length t ≡ length f
   pub s-long : length s ≡ length f
 
+-- the slices of B17 and C17
 pub record WeightSlices (f : List ℤ) (b17 c17 : List ℕ) : Type 0 where
   pub b17-long : length b17 ≡ length f
   pub c17-long : length c17 ≡ length f
 
-pub record Scratch (f scratch : List ℤ) : Type 0 where
+-- a scratch that is long enough for the figures
+pub record EnoughScratch (f scratch : List ℤ) : Type 0 where
   pub long : scratchFor (length f) ≤ length scratch
 
 -- B1 less the corrections of an irregular by its weights: C1 of B13, D1 of C13
@@ -76,14 +78,14 @@ pub record Corrected (start : ℕ) (f : List ℤ) (r : Weighed) (x i t s : List 
   pub b17-is : b17 ≡ B17 start f
   pub c17-is : c17 ≡ C17 start f
 
--- what pass D takes: x is D1
+-- what pass D takes: the figures, and a series that is as long and no larger than D1 can be
 pub record Final (f x : List ℤ) : Type 0 where
   pub figures : Figures f
   pub long : leastMonths ≤ length f
   pub x-long : length x ≡ length f
   pub x-small : AllWithin largestD1 x
 
--- what pass D on x leaves, with the seasonal filter g, the final trend's filter having so many terms
+-- what pass D on x leaves, by the seasonal filter g and a filter of so many terms for the final trend
 pub record Finished (g : SeasonalFilter) (terms : Terms) (b1 x d10 d11 d12 d13 : List ℤ) : Type 0 where
   pub seasonal : d10 ≡ S2 (choicesD g) x
   pub adjusted : d11 ≡ minus b1 (S2 (choicesD g) x)

@@ -47,8 +47,8 @@ says (Refused r) = refusalOf r
 unfoldable pub answer : ℕ → List ℤ → Slices → Answer Unit
 answer start figures lent = answerFor start figures (lengthsOf lent)
 
--- METHOD 8.4: what the slices hold after an answer: the tables, the weights and a zeroed scratch; a refusal touches none of them, but that 6 would
--- leave the scratch as success does
+-- METHOD 8.4: what the slices hold after an answer. After success: the tables, the weights, and the scratch with its first 5n entries zero and the
+-- rest as it was. A refusal changes none of them, except that 6 would leave the scratch as success does
 unfoldable pub after : Answer Unit → ℕ → List ℤ → Slices → Slices
 after (success _) start figures s =
     record {

@@ -22,8 +22,8 @@ yearsCheck year start n = row11 year start n ∷ []
 abbrev pub contentsChecks : SeriesWithWeights → List Check
 contentsChecks s = row5 (s .figures) ∷ row10 (s .weights) ∷ []
 
--- a file whose form has h bytes before the figures: 7, 1, 2, 3, 8, perhaps 11, 9, 4, 5, 10. n is the count that it states (8.1); `years` is row 11 or nothing; `short` says whether
--- what is lent to be filled is too short (7.2, 7.7, 7.8); s is the series that the file means
+-- a file whose form has h bytes before the figures: 7, 1, 2, 3, 8, perhaps 11, 9, 4, 5, 10. n is the count that it states (8.1); `years` is row 11
+-- or nothing; `short` says whether what is lent to be filled is too short (7.2, 7.7, 7.8); s is the series that the file means
 abbrev pub fileChecks : ℕ → List Check → Bool → SeriesWithWeights → List ℕ → List Check
 fileChecks h years short s file =
     checkRow 7 (ltb (length file) h)
@@ -36,9 +36,8 @@ fileChecks h years short s file =
     ∷ checkRow 4 short
     ∷ contentsChecks s
 
--- a series to be written in a form with h bytes before the figures, into an output of so many bytes: 1, 2, 3, perhaps 11, 4 of the
--- weights, 4 of the output, 5, 10. n is the number of
--- figures, the weights are exactly as many, and the output has room for the file (7.3, 7.7)
+-- a series to be written in a form with h bytes before the figures, into an output of so many bytes: 1, 2, 3, perhaps 11, 4 of the weights, 4 of
+-- the output, 5, 10. n is the number of figures, the weights are exactly as many, and the output has room for the file (7.3, 7.7)
 abbrev pub seriesChecks : ℕ → List Check → SeriesWithWeights → ℕ → List Check
 seriesChecks h years s room =
     row1 (length (s .figures))

@@ -1,8 +1,10 @@
 -- The answers of reading and writing, from what the checks found, and what then holds of the slices.
-use Prim.Native.Nat.{ℕ, min}
+use Prim.Native.Nat.{ℕ, _≤_, min}
 use mathlib.Core.Path.{_≡_, refl, sym, ap, subst, _∙_}
 use mathlib.Core.Bool.{Bool}
 use mathlib.Core.List.{List}
+use native.Mathlib.Omega.{arith}
+use borrow.Author.Tests.{le-ltb}
 use lib.Dec.{ltb}
 use lib.IntN.{ℤ}
 use lib.ListN.{length}
@@ -22,7 +24,7 @@ use Rattle.desk_forms.proofs.AfterLaws.{front-filled, front-kept}
 use Rattle.desk_checks.specs.declared.Checked.{Checked}
 use Rattle.desk_checks.specs.declared.Checked.the-variants as checked
 use Rattle.desk_checks.specs.Checked.{formChecks, FileFits, writtenChecks}
-use Rattle.desk_checks.proofs.CheckedLaws.{sized, series-fits, undated-file, undated-series}
+use Rattle.desk_checks.proofs.CheckedLaws.{sized, lent-fits, series-fits, undated-file, undated-series}
 use Rattle.desk_checks.proofs.Again.{written-length}
 use Rattle.desk_either.specs.Either.{ReadFits, ReadStops, ReadEither, WriteFits, WriteStops, WriteEither}
 use Rattle.desk_file.specs.declared.Reading.the-variants as reading
@@ -56,6 +58,14 @@ module _ (file : List ℕ) (figuresRoom weightsRoom : ℕ) where
   -- what the sizes of an accepted file are like
   pub read-sized : {n start : ℕ} → readAnswer file figuresRoom weightsRoom ≡ accepted n start → Sized Plain file n start
   read-sized {n} {start} e = sized (read-accepted n start e)
+
+-- other slices with room for the months change nothing
+pub read-with : (file : List ℕ) (a b : ℕ) {n start : ℕ} → readAnswer file a b ≡ accepted n start → (f w : ℕ) → n ≤ f → n ≤ w → readAnswer file f w ≡ accepted n start
+read-with file a b {n} {start} e f w h g =
+    let fits = read-accepted file a b n start e in
+    let same : short file a b ≡ short file f w =
+    lent-fits Plain earliestYear (short file a b) file (fits .passed) ∙ sym (le-ltb (min f w) (countIn file) (omega (arith, fits .count))) in
+    sym (read-accepts file f w (subst (λ (s : Bool). Before 10 (formChecks Plain earliestYear s file)) same (fits .passed)) (fits .count) (fits .begins))
 
 module _ {file : List ℕ} {figures₀ figures : List ℤ} {weights₀ weights : List ℕ} where
   pub read-refused : {r : Checked} {q : Refusal} → ReadEither Plain earliestYear file figures₀ weights₀ r figures weights → r ≡ checked.Refused q

@@ -22,7 +22,7 @@ columnsBytes year s =
 abbrev pub columnsFront : ℕ
 columnsFront = 6
 
--- METHOD 7.5: the length of a file of n months; it is 6 + 6 n, and as many are the bytes of a series (proofs/FileLaws: six-and-six, columns-length)
+-- METHOD 7.5: the length of a file of n months; it is 6 + 6n, and as many are the bytes of a series (proofs/FileLaws: six-and-six, columns-length)
 abbrev pub columnsLength : ℕ → ℕ
 columnsLength n = lengthFor columnsFront n
 

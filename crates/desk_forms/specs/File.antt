@@ -15,7 +15,7 @@ fileBytes s = header (length (s .figures)) (s .start) monthsOfYear ++ figuresByt
 abbrev pub headerLength : ℕ
 headerLength = 4
 
--- METHOD 7.1: the length of a file of n months; it is 4 + 6 n, and as many are the bytes of a series (proofs/FileLaws: four-and-six, plain-length)
+-- METHOD 7.1: the length of a file of n months; it is 4 + 6n, and as many are the bytes of a series (proofs/FileLaws: four-and-six, plain-length)
 abbrev pub fileLength : ℕ → ℕ
 fileLength n = lengthFor headerLength n
 

@@ -19,7 +19,6 @@ use Rattle.desk_file.proofs.Answers.{read-sized}
 use Rattle.decompose.specs.declared.Decomposed.{Decomposed}
 use Rattle.decompose.specs.declared.Decomposed.the-variants.{Tables, Refused}
 use Rattle.decompose.specs.Promise.{Slices, Promise, answer, after, says, lengthsOf}
-use Rattle.scratch.specs.Scratch.{scratchFor}
 use Rattle.decimals.specs.Storing.{Stored}
 use Rattle.print_lines.specs.Text.{refusedLine, tablesText, textRoom}
 use Rattle.print_tables.specs.Printed.{lentFor, seriesAnswer, tablesOf, decomposedText, seriesText, unreadText, readText, printed, PrintDone}
@@ -40,7 +39,7 @@ print-done {file} {out₀} {r} h s =
 abbrev frontsOf : ℕ → List ℤ → List ℕ → List ℤ → Slices
 frontsOf n x w scratch = record { d10 = take n x; d11 = take n x; d12 = take n x; d13 = take n x; b17 = take n w; c17 = take n w; scratch = scratch }
 
-pub fronts-lent : (n : ℕ) (x : List ℤ) (w : List ℕ) (scratch : List ℤ) → n ≤ length x → n ≤ length w → length scratch ≡ scratchFor mostMonths → lengthsOf (frontsOf n x w scratch) ≡ lentFor n
+pub fronts-lent : (n : ℕ) (x : List ℤ) (w : List ℕ) (scratch : List ℤ) → n ≤ length x → n ≤ length w → length scratch ≡ lentFor n .scratch → lengthsOf (frontsOf n x w scratch) ≡ lentFor n
 unfolding lengthsOf
 fronts-lent n x w scratch h g e = rw (length-take-le n x h, length-take-le n w g, e)
 

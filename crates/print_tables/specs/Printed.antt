@@ -7,14 +7,14 @@ use lib.ListN.{length, drop}
 use Rattle.refusals.specs.Limits.{mostMonths}
 use Rattle.refusals.specs.Sheet.{Answer, success, refusal}
 use Rattle.desk_forms.specs.File.{seriesIn}
-use Rattle.desk_file.specs.ReadFile.{Accepted, readAnswer}
+use Rattle.desk_file.specs.ReadFile.{Accepted, accepted, readAnswer}
 use Rattle.scratch.specs.Scratch.{scratchFor}
 use Rattle.checks.specs.declared.Lengths.{Lengths}
 use Rattle.tables.specs.Tables.{C17, D10, D11, D12, D13}
 use Rattle.checks.specs.Answer.{answerFor}
 use Rattle.print_lines.specs.Text.{refusedLine, SeriesTables, tablesText}
 
--- the slices lent for n months: each n long, the scratch long enough for the longest series
+-- the slices lent for n months: the tables and weights n long each, the scratch long enough for the longest series
 abbrev pub lentFor : ℕ → Lengths
 lentFor n = record { d10 = n; d11 = n; d12 = n; d13 = n; b17 = n; c17 = n; scratch = scratchFor mostMonths }
 
@@ -55,6 +55,11 @@ readText (refusal number place) file = refusedLine number place
 -- METHOD 9: the text for a byte string
 unfoldable pub printed : List ℕ → List ℕ
 printed file = readText (readAnswer file mostMonths mostMonths) file
+
+-- METHOD 9.1: of a file that reading accepts, with whatever room its slices have, the tables are printed; what the program lends never refuses it
+abbrev pub ReadThenPrinted : Type 0
+ReadThenPrinted = (file : List ℕ) (figuresRoom weightsRoom n start : ℕ) → readAnswer file figuresRoom weightsRoom ≡ accepted n start
+    → printed file ≡ tablesText (tablesOf start (seriesIn file .figures)) start
 
 -- the promise of `put_file`, for every byte string: the answer is the length of its text, which stands at the front of the array; the rest of the
 -- array is as it was

@@ -1,4 +1,4 @@
--- METHOD 8.4, the example: 72 months and a scratch of 576 entries, which is 8 n.
+-- METHOD 8.4, the example: 72 months and a scratch of 576 entries, which is 8n.
 use mathlib.Core.Path.{_≡_}
 use mathlib.Core.List.{List}
 use Prim.Native.Nat.{ℕ, _≤_, _<_}

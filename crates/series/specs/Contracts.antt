@@ -7,7 +7,7 @@ use lib.IntN.{ℤ}
 use Rattle.integers.specs.Lists.{AllWithin}
 use Rattle.refusals.specs.Limits.{mostMonths, largestFigure}
 
--- no number that is taken from another is larger: the final trend is the largest, at most 1.44 times what is filtered (filters, Contracts)
+-- no number on either side of a difference is larger: the final trend is the largest, at most 1.44 times what is filtered (filters, Contracts)
 abbrev pub widest : ℕ
 widest = 2_500_000_000_000
 
