@@ -46,7 +46,7 @@
 #define VEPSJALM_EARLIEST_YEAR 1       /* the year of a series' first month and that of its last, by calendar month */
 #define VEPSJALM_LATEST_YEAR 9999
 
-/* Entries of scratch for n months; bytes of a desk file for n months and of the longest, 3,604; the same by calendar month, 3,606, and of a
+/* The least entries of scratch for n months; bytes of a desk file for n months and of the longest, 3,604; the same by calendar month, 3,606, and of a
    members' sheet, 10,203. */
 #define VEPSJALM_SCRATCH_FOR(n) (5 * (n))
 #define VEPSJALM_FILE_LENGTH(n) (4 + 6 * (n))

@@ -1,9 +1,9 @@
 //! What the documents show, beside the separately written program and the repository: README's sample and its members' sheet, METHOD's rows
 //! and those that are stored, the runs of its part 3.9, its flooded January, its lengths of the final trend, its seasonal filters, its month
-//! order and its members' sheets, the wrong programs that CONTRACTS names.
+//! order, its members' sheets and its lengths of the scratch, the wrong programs that CONTRACTS names.
 
 use separate::columns::{by_month, last_year};
-use separate::decompose::decompose_fitting;
+use separate::decompose::{decompose_fitting, scratch_for};
 use separate::desk::bytes_of;
 use separate::extremes::{neighbours, RunValue};
 use separate::generators::book_series;
@@ -235,6 +235,17 @@ fn method_has_month_order_and_years() {
     assert_eq!(last_year(3, years[0] as u16, years[1] as usize) as i128, years[2]);
     let refused = numbers(between(&method, "is not 1 to 9999 (7.5) | 0 | ", " |"));
     assert_eq!((last_year(2, refused[1] as u16, refused[0] as usize) as i128, refused[2]), (10_000, 10_000));
+}
+
+#[test]
+fn method_has_lengths_of_the_scratch() {
+    let method = without_commas(&document("docs/METHOD.md"));
+    let least = |n: i128| scratch_for(n as usize) as i128;
+    let shown = numbers(between(&method, "5n or more: ", ". Reading"));
+    let due: Vec<i128> = [72, 600].into_iter().flat_map(|n| [n, least(n), least(n) - 1]).collect();
+    assert_eq!(shown, due);
+    let longer = numbers(between(&method, "as success does. Of ", "."));
+    assert_eq!(longer, [72, 8 * 72, 8, least(72), 8 * 72 - least(72)]);
 }
 
 /// Without the commas inside numbers.

@@ -15,7 +15,7 @@ use Rattle.tables.specs.PassB.{startB4, irregularB4, irregularB9}
 use Rattle.tables.specs.Tables.{B1, B13, C13}
 use Rattle.checks.specs.declared.Lengths.{Lengths}
 
--- METHOD 8.3: the lengths that row 4 asks for: D10 to D13, B17 and C17 exactly n entries each, the scratch 5n or more
+-- METHOD 8.3: whether the slices have the lengths that row 4 asks for, D10 to D13, B17 and C17 exactly n entries each, the scratch 5n or more
 unfoldable pub fitting : ℕ → Lengths → Bool
 fitting n l =
     eqb (l .d10) n

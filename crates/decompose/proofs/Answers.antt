@@ -67,13 +67,9 @@ made-is s = refl
 same : (s t : Slices) → s .d10 ≡ t .d10 → s .d11 ≡ t .d11 → s .d12 ≡ t .d12 → s .d13 ≡ t .d13 → s .b17 ≡ t .b17 → s .c17 ≡ t .c17 → s .scratch ≡ t .scratch → s ≡ t
 same s t a b c d e f g = sym (made-is s) ∙ rw (a, b, c, d, e, f, g) (made-is t)
 
--- they are the answer where rows 1 to 5 do not apply
+-- tables are the answer where none of rows 1 to 5 applies
 pub tables-answered : {start : ℕ} {f : List ℤ} {l : Lengths} → Accepts start f l → answerFor start f l ≡ success tt
 tables-answered h = h .answer-is ∙ rw (not-emptied (h .workable))
-
-answer-is : {start : ℕ} {f : List ℤ} (lent : Slices) → Accepts start f (lengthsOf lent) → answer start f lent ≡ success tt
-unfolding answer
-answer-is lent h = tables-answered h
 
 module _ (start : ℕ) (f : List ℤ) where
   d10-is : S2 (choicesD (finalSeasonalFilter start f)) (D1 start f) ≡ D10 start f
@@ -94,7 +90,7 @@ module _ (start : ℕ) (f : List ℤ) where
 
 pub tables : {start : ℕ} {f : List ℤ} {lent left : Slices} {r : Decomposed} → Accepts start f (lengthsOf lent)
     → PassesDone start f r (left .d10) (left .d11) (left .d12) (left .d13) (left .b17) (left .c17) (lent .scratch) (left .scratch) → Promise start f lent r left
-unfolding after
+unfolding answer after
 tables {start} {f} {lent} {left} {r} h k =
     let t = k .tables in
     let e10 = t .seasonal ∙ d10-is start f in
@@ -102,8 +98,8 @@ tables {start} {f} {lent} {left} {r} h k =
     let e12 = t .trend ∙ d12-is start f in
     let e13 = t .irregular ∙ d13-is start f in
     record {
-      answered = ap says (k .answered) ∙ sym (answer-is lent h);
-      slices = rw (answer-is lent h) (same left _ e10 e11 e12 e13 (k .b17-is) (k .c17-is) (k .scratch-is));
+      answered = ap says (k .answered) ∙ sym (tables-answered h);
+      slices = rw (tables-answered h) (same left _ e10 e11 e12 e13 (k .b17-is) (k .c17-is) (k .scratch-is));
       near = λ e i l. rw (e10, e11, e12, e13) (near-at start f i l);
       passes = passes-near start f;
     }

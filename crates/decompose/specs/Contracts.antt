@@ -78,7 +78,7 @@ pub record Corrected (start : ℕ) (f : List ℤ) (r : Weighed) (x i t s : List 
   pub b17-is : b17 ≡ B17 start f
   pub c17-is : c17 ≡ C17 start f
 
--- what pass D takes: the figures, and a series that is as long and no larger than D1 can be
+-- what pass D takes: the figures, and a series as long as they are and no larger than D1 can be
 pub record Final (f x : List ℤ) : Type 0 where
   pub figures : Figures f
   pub long : leastMonths ≤ length f

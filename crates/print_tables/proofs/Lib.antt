@@ -1,3 +1,3 @@
--- Laws that the proofs share; Accepted has what is printed of a file that is read.
+-- Laws that the proofs share; ReadPrinted has what is printed of a file that is read.
 mod PrintLaws
-pub mod Accepted
+pub mod ReadPrinted

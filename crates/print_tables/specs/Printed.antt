@@ -14,7 +14,7 @@ use Rattle.tables.specs.Tables.{C17, D10, D11, D12, D13}
 use Rattle.checks.specs.Answer.{answerFor}
 use Rattle.print_lines.specs.Text.{refusedLine, SeriesTables, tablesText}
 
--- the slices lent for n months: the tables and weights n long each, the scratch long enough for the longest series
+-- how long the slices are that the program lends for n months: the tables and weights n each, the scratch enough for the longest series
 abbrev pub lentFor : ℕ → Lengths
 lentFor n = record { d10 = n; d11 = n; d12 = n; d13 = n; b17 = n; c17 = n; scratch = scratchFor mostMonths }
 
@@ -56,7 +56,7 @@ readText (refusal number place) file = refusedLine number place
 unfoldable pub printed : List ℕ → List ℕ
 printed file = readText (readAnswer file mostMonths mostMonths) file
 
--- METHOD 9.1: of a file that reading accepts, with whatever room its slices have, the tables are printed; what the program lends never refuses it
+-- METHOD 9.1: if reading accepts a file, whatever lengths it was lent, the text is that of its tables: decomposing never refuses it
 abbrev pub ReadThenPrinted : Type 0
 ReadThenPrinted = (file : List ℕ) (figuresRoom weightsRoom n start : ℕ) → readAnswer file figuresRoom weightsRoom ≡ accepted n start
     → printed file ≡ tablesText (tablesOf start (seriesIn file .figures)) start

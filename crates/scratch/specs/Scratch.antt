@@ -5,7 +5,7 @@ use lib.ListN.{drop}
 use lib.IntN.{ℤ, pos}
 use Rattle.integers.specs.Lists.{tab}
 
--- METHOD 8.3: for n months it has 5n entries or more
+-- METHOD 8.3: the least number of entries for n months
 abbrev pub scratchFor : ℕ → ℕ
 scratchFor n = 5 * n
 

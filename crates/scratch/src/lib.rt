@@ -9,15 +9,15 @@ ghost use Rattle.scratch.specs.Scratch.{scratchFor, zeroed};
 // Entries for each month.
 pub const FOR_EACH_MONTH: usize = 5;
 
-// Row 4 (METHOD 8.3): whether a scratch of this length is long enough for n months.
-pub fn long_enough(n: usize, length: usize) -> bool
+// Row 4 (METHOD 8.3): whether a scratch of so many entries is long enough for n months.
+pub fn long_enough(n: usize, entries: usize) -> bool
     requires { ⌜ n ≤ mostMonths ⌝ }
-    ensures { λ r. ⌜ r ≡ leb (scratchFor n) length ⌝ }
+    ensures { λ r. ⌜ r ≡ leb (scratchFor n) entries ⌝ }
 {
-    FOR_EACH_MONTH * n <= length
+    FOR_EACH_MONTH * n <= entries
 }
 
-// METHOD 8.4: the entries asked for n months become 0, the rest stays.
+// METHOD 8.4: the first 5n entries become 0, the rest stays.
 pub fn clear(scratch: &mut [i64], n: usize)
     requires { ⌜ (n ≤ mostMonths) × (scratchFor n ≤ length (now scratch)) ⌝ }
     ensures { λ _. ⌜ now (scratch .exit) ≡ zeroed n (now (scratch .entry)) ⌝ }

@@ -1,4 +1,4 @@
--- `decompose::three_passes` meets its contract: the front of the scratch holds D1, and is zeroed at the end.
+-- `decompose::three_passes` meets its contract: the first n entries of the scratch hold D1, and its first 5n are zeroed at the end.
 -- Assumes nothing.
 use Prim.Native.Nat.{ℕ, _≤_}
 use mathlib.Core.Path.{_≡_, refl, sym, _∙_}
