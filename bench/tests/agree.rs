@@ -29,7 +29,7 @@ fn same(name: &str, figures: &[i32], start: u8, lent: &Lent) -> Answer {
 /// The scratch is as long as asked, a little longer, or has 8n entries.
 fn agree(name: &str, series: &Series) {
     let n = series.figures.len();
-    let tail = [0, 1, 2, 3 * n][n % 4];
+    let tail = [0, 1, 2, 3 * n][(n + series.start as usize) % 4];
     assert_eq!(same(name, &series.figures, series.start, &marked(n, tail)), (0, 0), "{name}");
 }
 
