@@ -25,7 +25,7 @@ pub record Slices : Type 0 where
   pub c17 : List ℕ
   pub scratch : List ℤ
 
--- how long they are
+-- METHOD 8.3: how long they are
 unfoldable pub lengthsOf : Slices → Lengths
 lengthsOf s =
     record {

@@ -14,15 +14,15 @@ use Rattle.tables.specs.Tables.{C17, D10, D11, D12, D13}
 use Rattle.checks.specs.Answer.{answerFor}
 use Rattle.print_lines.specs.Text.{refusedLine, SeriesTables, tablesText}
 
--- how long the slices are that the program lends for n months: the tables and weights n each, the scratch enough for the longest series
+-- METHOD 8.3: how long the slices are that the program lends for n months: the tables and weights n each, the scratch enough for the longest series
 abbrev pub lentFor : ℕ → Lengths
 lentFor n = record { d10 = n; d11 = n; d12 = n; d13 = n; b17 = n; c17 = n; scratch = scratchFor mostMonths }
 
--- what decomposing answers then
+-- METHOD 8.2: what decomposing answers then
 unfoldable pub seriesAnswer : ℕ → List ℤ → Answer Unit
 seriesAnswer start figures = answerFor start figures (lentFor (length figures))
 
--- the tables of a series
+-- METHOD 9.2: the tables of a series, of which its lines are made
 unfoldable pub tablesOf : ℕ → List ℤ → SeriesTables
 tablesOf start figures =
     record {
@@ -61,8 +61,8 @@ abbrev pub ReadThenPrinted : Type 0
 ReadThenPrinted = (file : List ℕ) (figuresRoom weightsRoom n start : ℕ) → readAnswer file figuresRoom weightsRoom ≡ accepted n start
     → printed file ≡ tablesText (tablesOf start (seriesIn file .figures)) start
 
--- the promise of `put_file`, for every byte string: the answer is the length of its text, which stands at the front of the array; the rest of the
--- array is as it was
+-- METHOD 9 and 10.1, the promise of `put_file`, for every byte string: the answer is the length of its text, which stands at the front of the
+-- array; the rest of the array is as it was
 pub record PrintDone (file out₀ : List ℕ) (r : ℕ) (out : List ℕ) : Type 0 where
   pub answer : r ≡ length (printed file)
   pub outLeft : out ≡ printed file ++ drop r out₀

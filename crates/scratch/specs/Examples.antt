@@ -7,7 +7,8 @@ use lib.IntN.{ℤ, pos}
 use Rattle.integers.specs.Lists.{_‼_}
 use Rattle.scratch.specs.Scratch.{scratchFor, zeroed}
 
--- 360 entries are asked for. Whatever the scratch held, its first 360 entries end as zero, the last 216 stay as they were, and none is lost
+-- METHOD 8.4: 360 entries are asked for. Whatever the scratch held, its first 360 entries end as zero, the last 216 stay as they were, and none is
+-- lost
 pub record LongerScratch : Type 0 where
   pub asked : scratchFor 72 ≡ 360
   pub zero : (scratch : List ℤ) → length scratch ≡ 576 → (i : ℕ) → i < 360 → zeroed 72 scratch ‼ i ≡ pos 0
