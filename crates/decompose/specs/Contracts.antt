@@ -18,7 +18,7 @@ use Rattle.extremes.specs.declared.Weighed.{Weighed}
 use Rattle.extremes.specs.declared.Weighed.the-variants.{Weights}
 use Rattle.tables.specs.Tables.{choicesD, irregularOf, corrections, B17, C7, C10, C13, C17, D1, finalSeasonalFilter, finalTerms}
 use Rattle.tables.specs.Bounds.{largestC7, largestC10, largestD1}
-use Rattle.scratch.specs.Scratch.{scratchFor, zeroed}
+use Rattle.scratch.specs.Scratch.{zeroed}
 use Rattle.checks.specs.Contracts.{Workable}
 use Rattle.decompose.specs.declared.Decomposed.{Decomposed}
 use Rattle.decompose.specs.declared.Decomposed.the-variants.{Tables}
@@ -42,10 +42,6 @@ pub record WorkSlices (f a b t s : List ℤ) : Type 0 where
 pub record WeightSlices (f : List ℤ) (b17 c17 : List ℕ) : Type 0 where
   pub b17-long : length b17 ≡ length f
   pub c17-long : length c17 ≡ length f
-
--- a scratch that is long enough for the figures
-pub record EnoughScratch (f scratch : List ℤ) : Type 0 where
-  pub long : scratchFor (length f) ≤ length scratch
 
 -- B1 less the corrections of an irregular by its weights: C1 of B13, D1 of C13
 unfoldable pub lessExtremes : ℕ → List ℤ → List ℤ → List ℤ

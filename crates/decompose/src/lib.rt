@@ -1,11 +1,13 @@
 // METHOD 4 and 8: a series into its tables. The tables that the caller lends are the work space.
 ghost use mathlib.Core.Path.{_≡_};
+ghost use Prim.Native.Nat.{_≤_};
 ghost use lib.ListN.{length};
 ghost use Rattle.refusals.specs.Limits.{unit};
 ghost use Rattle.series.specs.Operations.{times};
 ghost use Rattle.tables.specs.Tables.{B17, C1, C17, D1};
+ghost use Rattle.scratch.specs.Scratch.{scratchFor};
 ghost use Rattle.checks.specs.Contracts.{Workable};
-ghost use Rattle.decompose.specs.Contracts.{Correctable, WorkSlices, WeightSlices, EnoughScratch, ExtremesCorrected, CorrectedTo, ChoiceTables, Corrected, Final, Finished, PassesDone};
+ghost use Rattle.decompose.specs.Contracts.{Correctable, WorkSlices, WeightSlices, ExtremesCorrected, CorrectedTo, ChoiceTables, Corrected, Final, Finished, PassesDone};
 ghost use Rattle.decompose.specs.Promise.{Promise};
 use checks::Lengths;
 use extremes::Weighed;
@@ -140,7 +142,7 @@ fn three_passes(
     scratch: &mut [i64],
 ) -> Decomposed
     requires { ⌜ Workable start (now figures) × WorkSlices (now figures) (now d10) (now d11) (now d12) (now d13)
-        × WeightSlices (now figures) (now b17) (now c17) × EnoughScratch (now figures) (now scratch) ⌝ }
+        × WeightSlices (now figures) (now b17) (now c17) × (scratchFor (length (now figures)) ≤ length (now scratch)) ⌝ }
     ensures { λ r. ⌜ PassesDone start (now (figures .entry)) r (now (d10 .exit)) (now (d11 .exit)) (now (d12 .exit)) (now (d13 .exit))
         (now (b17 .exit)) (now (c17 .exit)) (now (scratch .entry)) (now (scratch .exit)) ⌝ }
 {

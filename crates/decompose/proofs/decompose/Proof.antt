@@ -38,7 +38,7 @@ three-passes-requires c κs = let t = c .before .before .before .before .before 
   accepts t .workable,
   record { a-long = f .d10-long; b-long = f .d11-long; t-long = f .d12-long; s-long = f .d13-long },
   record { b17-long = f .b17-long; c17-long = f .c17-long },
-  record { long = f .scratch-long },
+  f .scratch-long,
 )
 
 same-length : tie.Need-same-length

@@ -27,7 +27,7 @@ module _ (q : tie.After-corrected-series) where
   x = q .corrected-series .last .1 .1 .0
 
   room : n ≤ length (s .args .scratch .now)
-  room = omega (arith, s .pre .3 .long)
+  room = omega (arith, s .pre .3)
 
   same : length x ≡ length (take n (s .args .scratch .now))
   same = omega arith
@@ -52,11 +52,11 @@ slice-relend-prefix-corrected-series : tie.Need-slice-relend-prefix-corrected-se
 slice-relend-prefix-corrected-series c = search needs
 
 slice-aggregate-corrected-series : tie.Need-slice-aggregate-corrected-series
-slice-aggregate-corrected-series c = let s = c .before .before .before in front-long _ _ (omega (arith, s .pre .3 .long))
+slice-aggregate-corrected-series c = let s = c .before .before .before in front-long _ _ (omega (arith, s .pre .3))
 
 corrected-series-requires : tie.Need-corrected-series-requires
 corrected-series-requires c κs = let s = c .before .before .before .before .before .before .before .before .before in let n = length (s .args .figures .now) in
-    (s .pre .0, s .pre .1, sym (front-long n (s .args .scratch .now) (omega (arith, s .pre .3 .long))), s .pre .2)
+    (s .pre .0, s .pre .1, sym (front-long n (s .args .scratch .now) (omega (arith, s .pre .3))), s .pre .2)
 
 enum-told : tie.Need-enum-told
 enum-told c = search needs
@@ -108,7 +108,7 @@ final-tables-requires c κs = let q = corrected (c .before .before .before .befo
     (final (s .pre .0) (back q), record { a-long = omega (arith, s .pre .1, g); b-long = omega (arith, s .pre .1, g); t-long = omega (arith, s .pre .1, g); s-long = omega (arith, s .pre .1, g) })
 
 clear-requires-2 : tie.Need-clear-requires-2
-clear-requires-2 c κs = let q = corrected (c .before .before .before .before .before .before .before .before .before .before .before) in let s = q .before .before .before .before .before .before .before .before .before .before in (s .pre .0 .figures .short, omega (arith, kept q, s .pre .3 .long))
+clear-requires-2 c κs = let q = corrected (c .before .before .before .before .before .before .before .before .before .before .before) in let s = q .before .before .before .before .before .before .before .before .before .before in (s .pre .0 .figures .short, omega (arith, kept q, s .pre .3))
 
 same-length-8 : tie.Need-same-length-8
 same-length-8 c = search needs
