@@ -5,7 +5,7 @@ use mathlib.Core.List.{List}
 use Prim.Native.Nat.{ℕ, _+_, _≤_}
 use native.Mathlib.Omega.{arith}
 use native.Mathlib.Decide.{decLe}
-use borrow.Author.Tests.{ne-eqb, eqb-true, leb-true}
+use borrow.Author.Tests.{eqb-true, leb-true}
 use lib.Dec.{eqb}
 use lib.ListN.{length, List·getD-eq-default}
 use lib.IntN.{ℤ, pos}
@@ -16,10 +16,10 @@ use Rattle.refusals.specs.Limits.{largestFigure}
 use Rattle.refusals.specs.Inside.{figureInside}
 use Rattle.refusals.proofs.InsideLaws.{start-inside, figure-inside}
 use Rattle.refusals.specs.First.{firstOutside}
-use Rattle.refusals.specs.Sheet.{row, success}
+use Rattle.refusals.specs.Sheet.{success, refusalOf}
 use Rattle.refusals.proofs.FirstLaws.{NoneBefore, all-passed}
 use Rattle.refusals.specs.Contracts.{Before, Stopped, spanChecks, SpanFits, Spans}
-use Rattle.refusals.proofs.CheckLaws.{one-more, row-applies, each-applies, each-passed, stopped-more, stopped, past-first, span-number, span-passed}
+use Rattle.refusals.proofs.CheckLaws.{one-more, row-applies, each-applies, each-passed, stopped-more, stopped, none-applies, span-passed}
 use Rattle.refusals.specs.declared.Refusal.{Refusal}
 use Rattle.refusals.specs.declared.Verdict.{Verdict}
 use Rattle.refusals.specs.declared.Verdict.the-variants.{Refused}
@@ -27,7 +27,7 @@ use Rattle.refusals.specs.declared.Found.the-variants.{At, Nowhere}
 use Rattle.refusals.specs.declared.Refusal.the-variants.{WrongLength, FigureOutside}
 use Rattle.scratch.specs.Scratch.{scratchFor}
 use Rattle.checks.specs.Answer.{fitting, decomposeChecks, answerFor}
-use Rattle.checks.specs.Contracts.{Fits, Accepts, Refuses, Checked}
+use Rattle.checks.specs.Contracts.{Fits, Accepts, Checked}
 use Rattle.checks.specs.declared.Lengths.{Lengths}
 
 -- figures of which none is outside
@@ -67,31 +67,28 @@ fits n l e =
     }
 
 module _ (start : ℕ) (f : List ℤ) (l : Lengths) where
-  refuses : {q : Refusal} → Stopped q (decomposeChecks start f l) → eqb (row q .number) 6 ≡ false → Refuses q start f l
+  refuses : (q : Refusal) → Stopped q (decomposeChecks start f l) → answerFor start f l ≡ refusalOf q
   unfolding answerFor
-  refuses s e = record { answer-is = sym (stopped (success tt) s); not-six = e }
+  refuses q s = sym (stopped (success tt) s)
 
   -- rows 1 to 3
-  out-of-span : {q : Refusal} → Stopped q (spanChecks (length f) start) → Refuses q start f l
-  out-of-span {q} s = refuses (stopped-more _ s) (ne-eqb (row q .number) 6 (λ e. omega (arith, span-number (length f) start s)))
-
   pub by-span : {v : Verdict} {q : Refusal} → v ≡ Refused q → Spans v (length f) start → Checked v start f l
-  by-span e s = subst⁻¹ (λ (k : Verdict). Checked k start f l) e (out-of-span (subst (λ (k : Verdict). Spans k (length f) start) e s))
+  by-span {v} {q} e s = subst⁻¹ (λ (k : Verdict). Checked k start f l) e (refuses q (stopped-more _ (subst (λ (k : Verdict). Spans k (length f) start) e s)))
 
   -- the span fits
   module _ (h : SpanFits (length f) start) where
     three : Before 3 (decomposeChecks start f l)
     three = span-passed h
 
-    pub wrong-length : fitting (length f) l ≡ false → Refuses WrongLength start f l
-    wrong-length d = refuses (record { at = 3; before = three; here = row-applies 4 (ap not d) }) refl
+    pub wrong-length : fitting (length f) l ≡ false → answerFor start f l ≡ refusalOf WrongLength
+    wrong-length d = refuses WrongLength (record { at = 3; before = three; here = row-applies 4 (ap not d) })
 
     module _ (d : fitting (length f) l ≡ true) where
       four : Before 4 (decomposeChecks start f l)
       four = one-more (decomposeChecks start f l) 3 three (ap not d)
 
-      pub outside : (t : ℕ) → firstOutside f ≡ At t → Refuses (FigureOutside t) start f l
-      outside t e = refuses (record { at = 4; before = four; here = each-applies 5 e }) refl
+      pub outside : (t : ℕ) → firstOutside f ≡ At t → answerFor start f l ≡ refusalOf (FigureOutside t)
+      outside t e = refuses (FigureOutside t) (record { at = 4; before = four; here = each-applies 5 e })
 
       pub fine : firstOutside f ≡ Nowhere → Accepts start f l
       unfolding answerFor
@@ -103,5 +100,5 @@ module _ (start : ℕ) (f : List ℤ) (l : Lengths) where
           late = start-inside start (h .inside) .1;
         };
         fits = fits (length f) l d;
-        answer-is = past-first (decomposeChecks start f l) (success tt) 5 (one-more (decomposeChecks start f l) 4 four (each-passed 5 e));
+        answer-is = sym (none-applies (decomposeChecks start f l) (success tt) (one-more (decomposeChecks start f l) 4 four (each-passed 5 e)));
       }

@@ -1,18 +1,13 @@
 -- METHOD 8: what decomposing answers. Of the lent slices it looks at their lengths only.
-use mathlib.Core.Bool.{Bool, not, _&&_, _||_}
+use mathlib.Core.Bool.{Bool, not, _&&_}
 use mathlib.Core.List.{List, [], _∷_}
 use Prim.Native.Nat.{ℕ}
 use lib.Dec.{leb, eqb}
 use lib.ListN.{length}
 use lib.IntN.{ℤ}
-use Rattle.refusals.specs.Limits.{monthsOfYear}
 use Rattle.refusals.specs.Sheet.{Answer, success}
 use Rattle.refusals.specs.Checks.{Check, checkRow, row1, row2, row3, row5, firstToApply}
 use Rattle.scratch.specs.Scratch.{scratchFor}
-use Rattle.extremes.specs.Spreads.{sizesOf}
-use Rattle.extremes.specs.Weighing.{emptied}
-use Rattle.tables.specs.PassB.{startB4, irregularB4, irregularB9}
-use Rattle.tables.specs.Tables.{B1, B13, C13}
 use Rattle.checks.specs.declared.Lengths.{Lengths}
 
 -- METHOD 8.3: whether the slices have the lengths that row 4 asks for, D10 to D13, B17 and C17 exactly n entries each, the scratch 5n or more
@@ -20,15 +15,6 @@ unfoldable pub fitting : ℕ → Lengths → Bool
 fitting n l =
     eqb (l .d10) n
     && (eqb (l .d11) n && (eqb (l .d12) n && (eqb (l .d13) n && (eqb (l .b17) n && (eqb (l .c17) n && leb (scratchFor n) (l .scratch))))))
-
--- METHOD 8.1, row 6: dropping would empty a group, in one of the four weighings: of SI1 and of SI2 in pass B, of B13, of C13. It never applies (METHOD
--- 5.8; extremes, never-emptied), and stands here because the sheet has it
-unfoldable pub groupEmptied : ℕ → List ℤ → Bool
-groupEmptied start figures =
-    let b1 = B1 start figures in
-    emptied (startB4 start) monthsOfYear (sizesOf (irregularB4 b1))
-    || (emptied start monthsOfYear (sizesOf (irregularB9 start b1))
-    || (emptied start monthsOfYear (sizesOf (B13 start figures)) || emptied start monthsOfYear (sizesOf (C13 start figures))))
 
 -- METHOD 8.2: the checks of decomposing, in their order; n is the number of figures
 abbrev pub decomposeChecks : ℕ → List ℤ → Lengths → List Check
@@ -39,7 +25,6 @@ decomposeChecks start figures lengths =
     ∷ row3 start
     ∷ checkRow 4 (not (fitting n lengths))
     ∷ row5 figures
-    ∷ checkRow 6 (groupEmptied start figures)
     ∷ []
 
 -- METHOD 8.2: the answer is the first that applies, else the tables

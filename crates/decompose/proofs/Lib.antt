@@ -1,5 +1,2 @@
 -- Laws of decomposing.
-pub mod Grains
-pub mod Correcting
-pub mod Passes
 pub mod Answers

@@ -1,3 +1,2 @@
--- METHOD 8 and 10: what decomposing promises. Contracts has what the functions below it ask and leave.
+-- METHOD 8 and 10: what decomposing promises.
 pub mod Promise
-pub mod Contracts

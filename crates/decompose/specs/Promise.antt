@@ -1,9 +1,7 @@
 -- METHOD 8 and 10: what decomposing answers, and what it leaves in the lent slices, for all inputs.
 use mathlib.Core.Path.{_≡_}
-use mathlib.Core.Bool.{cond}
 use mathlib.Core.List.{List}
 use Prim.Native.Nat.{ℕ, _<_}
-use lib.Dec.{eqb}
 use lib.ListN.{length}
 use lib.IntN.{ℤ}
 use Rattle.refusals.specs.Sheet.{Answer, success, refusal, refusalOf}
@@ -48,7 +46,7 @@ unfoldable pub answer : ℕ → List ℤ → Slices → Answer Unit
 answer start figures lent = answerFor start figures (lengthsOf lent)
 
 -- METHOD 8.4: what the slices hold after an answer. After success: the tables, the weights, and the scratch with its first 5n entries zero and the
--- rest as it was. A refusal changes none of them, except that 6 would leave the scratch as success does
+-- rest as it was. A refusal changes none of them
 unfoldable pub after : Answer Unit → ℕ → List ℤ → Slices → Slices
 after (success _) start figures s =
     record {
@@ -60,10 +58,7 @@ after (success _) start figures s =
       c17 = C17 start figures;
       scratch = zeroed (length figures) (s .scratch);
     }
-after (refusal number place) start figures s =
-    cond (eqb number 6)
-    (record { d10 = s .d10; d11 = s .d11; d12 = s .d12; d13 = s .d13; b17 = s .b17; c17 = s .c17; scratch = zeroed (length figures) (s .scratch) })
-    s
+after (refusal number place) start figures s = s
 
 -- METHOD 10, the promise of decomposing: of its answer r and of the slices as lent and as left
 pub record Promise (start : ℕ) (figures : List ℤ) (lent : Slices) (r : Decomposed) (left : Slices) : Type 0 where

@@ -3,21 +3,19 @@ use Prim.Native.Nat.{ℕ, suc, _+_, _*_, _-_, _/_, _≤_, _<_}
 use mathlib.Core.Path.{_≡_, refl, sym, ap, _∙_}
 use mathlib.Core.Bool.{Bool, true, false, cond}
 use mathlib.Core.List.{List, [], _∷_}
-use native.Mathlib.Nat.{mul-le-mul, suc-mul, le-div-iff-mul-le, div-le-of-le-mul}
+use native.Mathlib.Nat.{mul-le-mul, suc-mul, div-le-of-le-mul}
 use native.Mathlib.Decide.{decLe}
 use native.Mathlib.Numerals.{add-one}
 use native.Mathlib.Omega.{arith}
 use lib.Dec.{ltb}
 use lib.ListN.{length, getD}
 use lib.Seq.{slice-cons, slice-empty, length-slice}
-use borrow.Author.Tests.{ltb-true, lt-ltb, le-ltb, eq-eqb, ne-eqb}
+use borrow.Author.Tests.{lt-ltb, le-ltb}
 use Rattle.integers.specs.Root.{root}
 use Rattle.integers.proofs.RootLaws.{root-is}
 use Rattle.extremes.specs.Years.{months}
-use Rattle.extremes.specs.Spreads.{squares, spread, keep, remaining, spreadOf}
+use Rattle.extremes.specs.Spreads.{squares, spread, keep}
 use Rattle.extremes.specs.Contracts.{dropped, NextAbove}
-use Rattle.extremes.specs.declared.spreads.Spread.{Spread}
-use Rattle.extremes.specs.declared.spreads.Spread.the-variants.{Of, Nothing}
 use Rattle.extremes.proofs.ListLaws.{AllBelow, below-tail, below-cons, below-slice}
 
 -- ---- the months from lo to below hi, from the first on
@@ -64,24 +62,6 @@ spread-most b g h = go (root-is (squares g / length g) .not-above) (decLe (sprea
 
 pub kept-most : (limit b : ℕ) (g : List ℕ) → AllBelow b g → spread (keep limit g) ≤ b
 kept-most limit b g h = spread-most b (keep limit g) (keep-below limit b g h)
-
--- ---- dropping leaves a month: were all dropped, all sizes would be above the first spread, and the spread larger
-all-above : (s : ℕ) (g : List ℕ) → length (keep (5 * s) g) ≡ 0 → length g * ((s + 1) * (s + 1)) ≤ squares g
-unfolding keep squares
-all-above s [] h = omega arith
-all-above s (a ∷ g) h = go (ltb (5 * s) (2 * a)) refl h (all-above s g)
-  where
-    go : (b : Bool) → ltb (5 * s) (2 * a) ≡ b → length (cond b (keep (5 * s) g) (a ∷ keep (5 * s) g)) ≡ 0
-        → (length (keep (5 * s) g) ≡ 0 → length g * ((s + 1) * (s + 1)) ≤ squares g) → suc (length g) * ((s + 1) * (s + 1)) ≤ a * a + squares g
-    go true e k i = let l : s + 1 ≤ a = omega (arith, ltb-true (5 * s) (2 * a) e) in
-        omega (arith, mul-le-mul l l, i k, suc-mul (length g) ((s + 1) * (s + 1)))
-    go false e k i = absurd (omega arith)
-
-pub some-remain : (g : List ℕ) → 0 < length g → length (remaining g) ≡ 0 → ⊥
-unfolding remaining spread
-some-remain g l h =
-    let q : (spread g + 1) * (spread g + 1) ≤ squares g / length g = le-div-iff-mul-le l .1 (omega (arith, all-above (spread g) g h)) in
-    omega (arith, root-is (squares g / length g) .greatest (spread g + 1) q)
 
 -- ---- what dropping takes away
 -- what stays and what is dropped are the whole
@@ -150,22 +130,7 @@ module _ (l : List ℕ) {limit hi : ℕ} (inside : hi ≤ length l) where
         let k = ap (λ (u : ℕ). dropped limit (months u hi l)) e ∙ ap (dropped limit) (months-none l hi) in
         (omega (arith, h .total, ap squares k), omega (arith, h .number, ap length k))
 
--- ---- the answer by a sum and a count
-pub spread-none : (g : List ℕ) → length g ≡ 0 → Nothing ≡ spreadOf g
-unfolding spreadOf
-spread-none g e = rw (eq-eqb (length g) 0 e)
-
-pub spread-is : (g : List ℕ) → (length g ≡ 0 → ⊥) → spreadOf g ≡ Of (spread g)
-unfolding spreadOf
-spread-is g e = rw (ne-eqb (length g) 0 e)
-
-pub spread-some : (g : List ℕ) {r sum count : ℕ} → 0 < count → sum ≡ squares g → count ≡ length g → r ≡ root (sum / count) → Of r ≡ spreadOf g
+-- ---- a spread by a sum and a count
+pub spread-is : (g : List ℕ) {r sum count : ℕ} → sum ≡ squares g → count ≡ length g → r ≡ root (sum / count) → r ≡ spread g
 unfolding spread
-spread-some g {r} l d e f = let s : r ≡ spread g = cc in ap Of s ∙ sym (spread-is g (λ z. omega arith))
-
--- ---- what an answer tells
-pub of-or-nothing : {r : Spread} {n : ℕ} → r ≡ Of n → r ≡ Nothing → ⊥
-of-or-nothing h k = let z : _≡_ {A = ℕ} 0 1 = cc in omega arith
-
-pub of-same : {r : Spread} {m n : ℕ} → r ≡ Of m → r ≡ Of n → m ≡ n
-of-same h k = cc
+spread-is g d e f = cc

@@ -1,4 +1,4 @@
--- Laws of weights, corrections and row 6.
+-- Laws of weights and corrections.
 use Prim.Native.Nat.{ℕ, _+_, _*_, _-_, _/_, _≤_, _<_}
 use mathlib.Core.Path.{_≡_, refl, _∙_}
 use mathlib.Core.Bool.{Bool, true, false, cond}
@@ -16,11 +16,8 @@ use Rattle.integers.proofs.RoundingLaws.{toGrain-size}
 use Rattle.integers.proofs.FillingLaws.{length-tab, tab-each}
 use Rattle.refusals.specs.Limits.{fullWeight}
 use Rattle.extremes.specs.Spreads.{sizesOf}
-use Rattle.extremes.specs.Weighing.{weight, weightBy, monthWeight, weightsBy, weightsOf, emptied, answerOf, correctionOf}
-use Rattle.extremes.specs.Contracts.{Calendar}
-use Rattle.extremes.specs.declared.Weighed.the-variants.{Weights}
+use Rattle.extremes.specs.Weighing.{weight, weightBy, monthWeight, weightsBy, weightsOf, correctionOf}
 use Rattle.extremes.proofs.HeldSizes.{length-sizesOf}
-use Rattle.extremes.proofs.Groups.{none-emptied, always-weights}
 
 -- ---- a weight is at most 1,000
 -- the quotient is from 1,500 to 2,500 where it is taken
@@ -62,11 +59,3 @@ unfolding correctionOf
 correction-within z w {b} h =
     let m : natAbs z * (fullWeight - w) ≤ b * fullWeight = mul-le-mul (h .abs) (omega arith) in
     toGrain-size (z *ℤ pos (fullWeight - w)) fullWeight b (omega arith) (omega (arith, abs-mul z (pos (fullWeight - w))))
-
--- ---- row 6 never applies: no group is emptied, the answer is Weights
-pub never-emptied : {start period : ℕ} (x : List ℤ) → Calendar start period (length x) → emptied start period (sizesOf x) ≡ false
-never-emptied x s = none-emptied (sizesOf x) (length-sizesOf x) s
-
-pub always-weighed : {start period : ℕ} (x : List ℤ) → Calendar start period (length x) → answerOf start period x ≡ Weights
-unfolding answerOf
-always-weighed x s = always-weights (sizesOf x) (length-sizesOf x) s

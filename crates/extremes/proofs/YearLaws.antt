@@ -29,29 +29,30 @@ module _ {start period : ℕ} (y t : ℕ) (early : 1 ≤ start) (late : start �
 five-years : (period n b y : ℕ) → b < period → period * y + 4 * period < b + n → min n (period * y - b) < min n (period * (y + 5) - b)
 five-years period n b y h k = omega arith
 
-module _ {start period n : ℕ} (s : Calendar start period n) where
+-- a year with two years before it and two after uses its own group
+pub centre-own : (count c : ℕ) → 2 ≤ c → c + 3 ≤ count → centre count c ≡ c
+unfolding centre
+centre-own count c l k = omega arith
+
+module _ {start period n : ℕ} (early : 1 ≤ start) (late : start ≤ period) (least : 5 * period ≤ n) where
   pub years-some : 5 ≤ years start period n
   unfolding years
-  years-some = omega (arith, by-years 4 (n - 1) (s .early) (s .late) .1 (omega arith))
+  years-some = omega (arith, by-years 4 (n - 1) early late .1 (omega arith))
 
   -- the year whose group is used has two years before it and two after
   pub centre-inside : (y : ℕ) → (2 ≤ centre (years start period n) y) × (centre (years start period n) y + 3 ≤ years start period n)
   unfolding centre
   centre-inside y = omega (arith, years-some)
 
-  -- such a year uses its own group
-  pub centre-own : (c : ℕ) → 2 ≤ c → c + 3 ≤ years start period n → centre (years start period n) c ≡ c
-  unfolding centre
-  centre-own c l k = omega arith
-
   -- a group has months
   pub group-range : (c : ℕ) → 2 ≤ c → c + 3 ≤ years start period n → (yearStart start period n (c - 2) < yearStart start period n (c + 3)) × (yearStart start period n (c + 3) ≤ n)
   unfolding yearStart years
   group-range c l k =
       let e : c - 2 + 5 ≡ c + 3 = omega arith in
-      let m = by-years (c - 2 + 4) (n - 1) (s .early) (s .late) .0 (omega arith) in
-      (rw e at (five-years period n (start - 1) (c - 2) (omega (arith, s .early, s .late)) (omega (arith, m, s .early))), min-le-left _ _)
+      let m = by-years (c - 2 + 4) (n - 1) early late .0 (omega arith) in
+      (rw e at (five-years period n (start - 1) (c - 2) (omega arith) (omega (arith, m))), min-le-left _ _)
 
+module _ {start period n : ℕ} (s : Calendar start period n) where
   -- how large the numbers of years and months are that the code works with
   pub years-few : years start period n ≤ 2 * mostMonths
   unfolding years yearOf
@@ -61,15 +62,10 @@ module _ {start period n : ℕ} (s : Calendar start period n) where
   unfolding years
   starts-few y h = omega (arith, by-years (yearOf start period (n - 1)) (n - 1) (s .early) (s .late) .0 (omega arith), mul-le-mul-left period h, s .least, s .most, s .late)
 
--- ---- where a series has the months of six years, those of five of them can be weighed: SI1 starts half a year later and ends half a year earlier
-pub part-calendar : {start period n : ℕ} (k : ℕ) → 6 * period ≤ n → n ≤ mostMonths → 1 ≤ start → start ≤ period → Calendar (monthOf start period k) period (n - period)
+-- ---- a calendar month is one of the year's
+pub month-inside : (start period t : ℕ) → 1 ≤ start → start ≤ period → (1 ≤ monthOf start period t) × (monthOf start period t ≤ period)
 unfolding monthOf
-part-calendar {start} {period} k a b h l = record {
-  least = omega arith;
-  most = omega arith;
-  early = omega arith;
-  late = omega (arith, mod-lt (start - 1 + k) {m = period} (omega arith));
-}
+month-inside start period t early late = (omega arith, omega (arith, mod-lt (start - 1 + t) {m = period} (omega arith)))
 
 -- ---- the months that a group serves: the first group from the first month on, the last group to the end
 module _ {start period n last : ℕ} (s : Calendar start period n) (l : last ≡ years start period n - 3) where
@@ -104,7 +100,7 @@ module _ {start period n last : ℕ} (s : Calendar start period n) (l : last ≡
   served-later c t m = go (start-is c)
     where
       go : ServedStart c → (from c ≤ t) ↔ (c ≤ min (max (yearOf start period t) 2) (years start period n - 3))
-      go (inl h) = (λ k. omega (arith, h .0, years-some s), λ k. omega (arith, h .1))
+      go (inl h) = (λ k. omega (arith, h .0, years-some (s .early) (s .late) (s .least)), λ k. omega (arith, h .1))
       go (inr (inl h)) = (λ k. absurd (omega (arith, h .1)), λ k. absurd (omega (arith, h .0)))
       go (inr (inr h)) = let i = from-start c t (s .early) (s .late) n m in (λ k. omega (arith, h .0, h .1, i .0 (omega (arith, h .2))), λ k. omega (arith, h .2, i .1 (omega (arith, h .0))))
 
@@ -114,7 +110,7 @@ module _ {start period n last : ℕ} (s : Calendar start period n) (l : last ≡
 
   pub served-end : from (last + 1) ≡ n
   unfolding servedFrom
-  served-end = rw (lt-leb (last + 1) 2 (omega (arith, years-some s)), lt-ltb last (last + 1) (omega arith))
+  served-end = rw (lt-leb (last + 1) 2 (omega (arith, years-some (s .early) (s .late) (s .least))), lt-ltb last (last + 1) (omega arith))
 
   pub served-order : (c : ℕ) → (from c ≤ from (c + 1)) × (from (c + 1) ≤ n)
   served-order c = (go (decLe (from c) (from (c + 1))), served-most (c + 1))

@@ -10,8 +10,7 @@ use Rattle.integers.specs.Lists.{_‼_, tab, AllWithin}
 use Rattle.refusals.specs.Limits.{mostMonths}
 use Rattle.extremes.specs.Years.{yearStart, months}
 use Rattle.extremes.specs.Spreads.{sizesOf, squares}
-use Rattle.extremes.specs.Weighing.{weightsBy, weightsOf, answerBy, answerOf}
-use Rattle.extremes.specs.declared.Weighed.{Weighed}
+use Rattle.extremes.specs.Weighing.{weightsOf}
 
 -- the largest irregular, in grains, and the largest size, in units: 64 bits hold the squares of 600 such sizes
 abbrev pub largestIrregular : ℕ
@@ -88,11 +87,6 @@ pub record NextAbove (limit t hi : ℕ) (sizes : List ℕ) (r : ℕ) : Type 0 wh
   pub above : r < hi → limit < 2 * getD sizes r 0
 
 -- ---- weights
--- the answer r and the weights that sizes give
-pub record WeighedBy (start period : ℕ) (sizes : List ℕ) (r : Weighed) (out : List ℕ) : Type 0 where
-  pub answer : r ≡ answerBy start period sizes
-  pub weights : out ≡ weightsBy start period sizes
-
 -- what `weights` asks
 pub record Weighable (start period : ℕ) (x work running : List ℤ) (out : List ℕ) : Type 0 where
   pub calendar : Calendar start period (length x)
@@ -101,10 +95,8 @@ pub record Weighable (start period : ℕ) (x work running : List ℤ) (out : Lis
   pub sums : length running ≡ length x
   pub weights : length out ≡ length x
 
--- what it promises: of the answer r, the sizes, their running sums and the weights as they are left, whichever the answer (row 6 and what it
--- leaves are the caller's: it never applies)
-pub record Outcome (start period : ℕ) (x : List ℤ) (r : Weighed) (work running : List ℤ) (out : List ℕ) : Type 0 where
-  pub answer : r ≡ answerOf start period x
+-- what it leaves: the sizes, their running sums and the weights
+pub record Outcome (start period : ℕ) (x work running : List ℤ) (out : List ℕ) : Type 0 where
   pub sizes : work ≡ map pos (sizesOf x)
   pub sums : running ≡ map pos (runningSquares (sizesOf x))
   pub weights : out ≡ weightsOf start period x

@@ -2,15 +2,13 @@
 use Prim.Native.Nat.{ℕ, _+_, _*_, _/_}
 use mathlib.Core.Bool.{cond}
 use mathlib.Core.List.{List, [], _∷_}
-use lib.Dec.{ltb, eqb}
+use lib.Dec.{ltb}
 use lib.ListN.{length}
 use lib.IntN.{ℤ, natAbs}
 use Rattle.integers.specs.Lists.{_‼_, tab}
 use Rattle.integers.specs.Root.{root}
 use Rattle.integers.specs.Rounding.{awayFromZero}
 use Rattle.refusals.specs.Limits.{unit}
-use Rattle.extremes.specs.declared.spreads.Spread.{Spread}
-use Rattle.extremes.specs.declared.spreads.Spread.the-variants.{Of, Nothing}
 
 -- METHOD 5.3: a month's irregular, rounded to whole units (1.4; DECISIONS 1), without its sign; and the sizes of all months
 unfoldable pub sizeOf : ℤ → ℕ
@@ -34,13 +32,12 @@ keep limit [] = []
 keep limit (a ∷ g) = cond (ltb limit (2 * a)) (keep limit g) (a ∷ keep limit g)
 
 -- METHOD 5.4: the limit is five times the first spread
-unfoldable pub remaining : List ℕ → List ℕ
-remaining g = keep (5 * spread g) g
+unfoldable pub limitOf : List ℕ → ℕ
+limitOf g = 5 * spread g
 
--- METHOD 5.4: the second spread, that of the months that stay. (A group is never emptied, 5.8: proofs/WeighingLaws.antt, never-emptied)
+unfoldable pub remaining : List ℕ → List ℕ
+remaining g = keep (limitOf g) g
+
+-- METHOD 5.4: the second spread, that of the months that stay (there are some: 5.8, NoGroupEmptied)
 unfoldable pub secondSpread : List ℕ → ℕ
 secondSpread g = spread (remaining g)
-
--- a spread as the code answers it: `Nothing` where there is no month
-unfoldable pub spreadOf : List ℕ → Spread
-spreadOf g = cond (eqb (length g) 0) Nothing (Of (spread g))

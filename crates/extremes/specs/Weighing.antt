@@ -1,6 +1,6 @@
--- METHOD 5.6: the weights; 5.7: the correction; row 6 of 8.1: a group that dropping would empty.
-use Prim.Native.Nat.{ℕ, zero, suc, _*_, _-_}
-use mathlib.Core.Bool.{Bool, true, false, cond}
+-- METHOD 5.6: the weights; 5.7: the correction.
+use Prim.Native.Nat.{ℕ, _*_, _-_}
+use mathlib.Core.Bool.{cond}
 use mathlib.Core.List.{List}
 use lib.Dec.{ltb, eqb}
 use lib.ListN.{length, getD}
@@ -8,10 +8,8 @@ use lib.IntN.{ℤ, pos, _*ℤ_}
 use Rattle.integers.specs.Lists.{tab}
 use Rattle.integers.specs.Rounding.{halfUp, toGrain}
 use Rattle.refusals.specs.Limits.{fullWeight}
-use Rattle.extremes.specs.Years.{yearOf, years, group}
-use Rattle.extremes.specs.Spreads.{sizesOf, remaining, secondSpread}
-use Rattle.extremes.specs.declared.Weighed.{Weighed}
-use Rattle.extremes.specs.declared.Weighed.the-variants.{Weights, EmptyGroup}
+use Rattle.extremes.specs.Years.{yearOf, group}
+use Rattle.extremes.specs.Spreads.{sizesOf, secondSpread}
 
 -- METHOD 5.6: the weight of a month of size a, σ being the second spread that its year uses. The first case that fits decides:
 -- σ = 0: 1,000 where a = 0, and 0 where it is not; 2a > 5σ: 0; 2a < 3σ: 1,000;
@@ -39,21 +37,6 @@ module _ (start period : ℕ) where
   -- METHOD 3.8, 4.1 and 4.2: the weights of an irregular
   unfoldable pub weightsOf : List ℤ → List ℕ
   weightsOf x = weightsBy (sizesOf x)
-
-  -- METHOD 8.1, row 6: dropping would empty the group of some year below k, or of any year (never: 5.8)
-  unfoldable pub emptiedBelow : ℕ → List ℕ → Bool
-  emptiedBelow zero sizes = false
-  emptiedBelow (suc k) sizes = cond (eqb (length (remaining (group start period sizes k))) 0) true (emptiedBelow k sizes)
-
-  unfoldable pub emptied : List ℕ → Bool
-  emptied sizes = emptiedBelow (years start period (length sizes)) sizes
-
-  -- the answer to an irregular, for the crate above: decomposing gives row 6 its number (checks, Answer)
-  unfoldable pub answerBy : List ℕ → Weighed
-  answerBy sizes = cond (emptied sizes) EmptyGroup Weights
-
-  unfoldable pub answerOf : List ℤ → Weighed
-  answerOf x = answerBy (sizesOf x)
 
 -- METHOD 5.7: the correction of a month: its irregular z times (1,000 less its weight w), over 1,000, rounded to a grain
 unfoldable pub correctionOf : ℤ → ℕ → ℤ

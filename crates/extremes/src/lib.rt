@@ -16,12 +16,6 @@ use sizes::fill_sizes;
 use sizes::fill_sums;
 use weighing::weigh_groups;
 
-// The weights are filled, or dropping left a group empty.
-pub enum Weighed {
-    Weights,
-    EmptyGroup,
-}
-
 // METHOD 3.8: the calendar month of month t, where a year has so many months.
 pub fn month_of(start: u8, period: u8, t: usize) -> u8
     requires { ⌜ (1 ≤ start) × (start ≤ period) × (t ≤ mostMonths) ⌝ }
@@ -38,13 +32,13 @@ pub fn weights(
     sizes: &mut [i64],
     sums: &mut [i64],
     out: &mut [u16],
-) -> Weighed
+)
     requires { ⌜ Weighable start period (now irregular) (now sizes) (now sums) (now out) ⌝ }
-    ensures { λ r. ⌜ Outcome start period (now (irregular .entry)) r (now (sizes .exit)) (now (sums .exit)) (now (out .exit)) ⌝ }
+    ensures { λ _. ⌜ Outcome start period (now (irregular .entry)) (now (sizes .exit)) (now (sums .exit)) (now (out .exit)) ⌝ }
 {
     fill_sizes(irregular, sizes);
     fill_sums(sizes, sums);
-    weigh_groups(sizes, sums, start as usize, period as usize, out)
+    weigh_groups(sizes, sums, start as usize, period as usize, out);
 }
 
 // METHOD 5.7: the correction of a month, by its irregular and its weight.

@@ -3,13 +3,11 @@ ghost use mathlib.Core.Path.{_≡_};
 ghost use Prim.Native.Nat.{_≤_};
 ghost use lib.ListN.{length};
 ghost use Rattle.integers.specs.Filling.{Filled};
-ghost use Rattle.extremes.specs.Weighing.{weight, weightBy};
-ghost use Rattle.extremes.specs.Contracts.{largestSize, sizesIn, Range, Summed, WeighedBy};
-use super::Weighed;
+ghost use Rattle.extremes.specs.Weighing.{weight, weightBy, weightsBy};
+ghost use Rattle.extremes.specs.Contracts.{largestSize, sizesIn, Range, Summed};
 use super::calendar::served_from;
 use super::calendar::years;
 use super::sizes::size_at;
-use super::spreads::Spread;
 use super::spreads::group_spread;
 
 // The weight of a month by the second spread of its group and its size.
@@ -43,26 +41,16 @@ fn fill_weights(sizes: &[i64], lo: usize, hi: usize, spread: u64, out: &mut [u16
 }
 
 // Each group's spread once, then the weights of the months that it serves.
-pub fn weigh_groups(
-    sizes: &[i64],
-    sums: &[i64],
-    start: usize,
-    period: usize,
-    out: &mut [u16],
-) -> Weighed
+pub fn weigh_groups(sizes: &[i64], sums: &[i64], start: usize, period: usize, out: &mut [u16])
     requires { ⌜ Summed start period (now sizes) (now sums) × (length (now out) ≡ length (now sizes)) ⌝ }
-    ensures { λ r. ⌜ WeighedBy start period (sizesIn (now (sizes .entry))) r (now (out .exit)) ⌝ }
+    ensures { λ _. ⌜ now (out .exit) ≡ weightsBy start period (sizesIn (now (sizes .entry))) ⌝ }
 {
     let n = sizes.len();
     let last = years(start, period, n) - 3;
     for c in 2..last + 1 {
-        let found = group_spread(sizes, sums, start, period, c);
-        let Spread::Of(spread) = found else {
-            return Weighed::EmptyGroup;
-        };
+        let spread = group_spread(sizes, sums, start, period, c);
         let lo = served_from(start, period, n, last, c);
         let hi = served_from(start, period, n, last, c + 1);
         fill_weights(sizes, lo, hi, spread, out);
     }
-    Weighed::Weights
 }

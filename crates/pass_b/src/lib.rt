@@ -19,7 +19,7 @@ use rows::SeasonalFilter;
 use rows::Terms;
 
 // The weights of what the preliminary seasonal of si leaves of it, from the calendar month of its first value; r holds 3x3 or 3x5 of si. r, t and s
-// are then work space. No group is ever emptied (METHOD 5.8), so that the answer is not looked at.
+// are then work space.
 fn weigh(si: &[i64], start: u8, r: &mut [i64], t: &mut [i64], s: &mut [i64], w: &mut [u16])
     requires { ⌜ Weighs start (now si) (now r) (now t) (now s) (now w) ⌝ }
     ensures { λ _. ⌜ now (w .exit) ≡ weightsOf start monthsOfYear (minus (now (si .entry)) (withoutLevel 6 table2x12 (now (r .entry)))) ⌝ }

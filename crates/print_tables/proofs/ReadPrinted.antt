@@ -16,7 +16,6 @@ use Rattle.desk_file.proofs.Answers.{read-accepted, read-sized, read-with}
 use Rattle.scratch.specs.Scratch.{scratchFor}
 use Rattle.checks.specs.Answer.{fitting}
 use Rattle.checks.proofs.Rows.{fine}
-use Rattle.decompose.proofs.Answers.{tables-answered}
 use Rattle.print_tables.specs.Printed.{lentFor, seriesAnswer, decomposedText, seriesText, readText, printed, ReadThenPrinted}
 
 -- row 4: what is lent is long enough
@@ -31,9 +30,8 @@ module _ (file : List ℕ) (figuresRoom weightsRoom n start : ℕ) (e : readAnsw
       let f = read-accepted file figuresRoom weightsRoom n start e in
       let s = file-fits Plain earliestYear _ file (f .passed) in
       let z = read-sized file figuresRoom weightsRoom e in
-      tables-answered
-      (fine start (seriesIn file .figures) (lentFor (length (seriesIn file .figures)))
-      (record { least = s .least; most = s .most; inside = z .inside }) (lent-enough (length (seriesIn file .figures)) (s .most)) (s .figuresFit))
+      fine start (seriesIn file .figures) (lentFor (length (seriesIn file .figures)))
+      (record { least = s .least; most = s .most; inside = z .inside }) (lent-enough (length (seriesIn file .figures)) (s .most)) (s .figuresFit) .answer-is
 
   read-here : readAnswer file mostMonths mostMonths ≡ accepted n start
   read-here =

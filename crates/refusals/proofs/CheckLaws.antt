@@ -8,7 +8,6 @@ use native.Mathlib.Omega.{arith}
 use borrow.Author.Tests.{le-ltb}
 use lib.ListN.{length, drop}
 use Rattle.refusals.specs.declared.Refusal.{Refusal}
-use Rattle.refusals.specs.declared.Refusal.the-variants.{TooShort, TooLong, BadStart, WrongLength, FigureOutside, EmptyGroup, NoHeader, BadPeriod, BadFileLength, WeightAbove, BadYears, MalformedCell, Gap, BadDouble}
 use Rattle.refusals.specs.declared.Found.{Found}
 use Rattle.refusals.specs.declared.Found.the-variants.{At, Nowhere}
 use Rattle.refusals.specs.Sheet.{row, Answer, success, refusal, refusalOf}
@@ -92,12 +91,6 @@ module _ {A : Type 0} where
   pub stopped : {q : Refusal} {ks : List Check} (otherwise : Answer A) → Stopped q ks → refusalOf q ≡ firstToApply ks otherwise
   stopped {q} {ks} otherwise s = stop-at ks otherwise (s .at) (row q .number) (row q .place) (s .before) (s .here)
 
-  -- the first i do not apply: what is left decides
-  pub past-first : (ks : List Check) (otherwise : Answer A) (i : ℕ) → Before i ks → firstToApply ks otherwise ≡ firstToApply (drop i ks) otherwise
-  past-first ks otherwise zero h = refl
-  past-first [] otherwise (suc i) h = absurd h
-  past-first (k ∷ ks) otherwise (suc i) h = rw (h .0) (past-first ks otherwise i (h .1))
-
   pub none-applies : (ks : List Check) (otherwise : Answer A) → Before (length ks) ks → otherwise ≡ firstToApply ks otherwise
   none-applies [] otherwise h = refl
   none-applies (k ∷ ks) otherwise h = rw (h .0) (none-applies ks otherwise (h .1))
@@ -127,31 +120,5 @@ module _ {A : Type 0} where
       by next false e = rw e (next e)
 
 -- ---- rows 1 to 3
-span-at : (n start i number place : ℕ) → CheckAt i (refusing number place) (spanChecks n start) → number ≤ 3
-span-at n start zero number place e = let h : 1 ≡ number = ap (λ (c : Check). c .number) e in omega arith
-span-at n start (suc zero) number place e = let h : 2 ≡ number = ap (λ (c : Check). c .number) e in omega arith
-span-at n start (suc (suc zero)) number place e = let h : 3 ≡ number = ap (λ (c : Check). c .number) e in omega arith
-span-at n start (suc (suc (suc i))) number place e = absurd e
-
-pub span-number : {q : Refusal} (n start : ℕ) → Stopped q (spanChecks n start) → row q .number ≤ 3
-span-number {q} n start s = span-at n start (s .at) (row q .number) (row q .place) (s .here)
-
 pub span-passed : {n start : ℕ} → SpanFits n start → Before 3 (spanChecks n start)
 span-passed h = le-ltb _ _ (h .least) & le-ltb _ _ (h .most) & ap not (h .inside) & tt
-
--- ---- no row of the sheet has the number 0, which is success in other languages
-pub row-not-zero : (q : Refusal) → row q .number ≡ 0 → ⊥
-row-not-zero TooShort e = omega arith
-row-not-zero TooLong e = omega arith
-row-not-zero BadStart e = omega arith
-row-not-zero WrongLength e = omega arith
-row-not-zero (FigureOutside t) e = omega arith
-row-not-zero EmptyGroup e = omega arith
-row-not-zero NoHeader e = omega arith
-row-not-zero BadPeriod e = omega arith
-row-not-zero BadFileLength e = omega arith
-row-not-zero (WeightAbove t) e = omega arith
-row-not-zero BadYears e = omega arith
-row-not-zero (MalformedCell t) e = omega arith
-row-not-zero (Gap t) e = omega arith
-row-not-zero (BadDouble t) e = omega arith

@@ -1,4 +1,5 @@
--- Laws of the limits, of the first bad element and of checks in their order.
+-- Laws of the limits, of the first bad element, of checks in their order and of the numbers of the sheet.
 pub mod InsideLaws
 pub mod FirstLaws
 pub mod CheckLaws
+pub mod RowNumbers

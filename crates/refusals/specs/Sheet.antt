@@ -1,8 +1,9 @@
 -- METHOD 8.1, the refusal sheet: the number and the place of each row. The promises of the entry points say `refusal number place`;
 -- what the program answers is turned into that by `refusalOf`.
 use Prim.Native.Nat.{ℕ}
+use mathlib.Core.Path.{_≡_}
 use Rattle.refusals.specs.declared.Refusal.{Refusal}
-use Rattle.refusals.specs.declared.Refusal.the-variants.{TooShort, TooLong, BadStart, WrongLength, FigureOutside, EmptyGroup, NoHeader, BadPeriod, BadFileLength, WeightAbove, BadYears, MalformedCell, Gap, BadDouble}
+use Rattle.refusals.specs.declared.Refusal.the-variants.{TooShort, TooLong, BadStart, WrongLength, FigureOutside, NoHeader, BadPeriod, BadFileLength, WeightAbove, BadYears, MalformedCell, Gap, BadDouble}
 
 pub record Row : Type 0 where
   pub number : ℕ
@@ -20,8 +21,6 @@ row BadStart = numbered 3 0
 row WrongLength = numbered 4 0
 -- a figure is outside its limits, the first of them at t
 row (FigureOutside t) = numbered 5 t
--- dropping would empty a group (never: METHOD 5.8)
-row EmptyGroup = numbered 6 0
 -- a file has fewer than 4 bytes, by calendar month fewer than 6; a members' sheet fewer than 3
 row NoHeader = numbered 7 0
 -- a file's period is not 12
@@ -37,6 +36,10 @@ row BadYears = numbered 11 0
 row (MalformedCell t) = numbered 12 t
 row (Gap t) = numbered 13 t
 row (BadDouble t) = numbered 14 t
+
+-- METHOD 8.1 and 8.5: no row has this number (shown in proofs/RowNumbers.antt of 6, which is retired, and of 0, which is success in other languages)
+pub record NoRowHas (number : ℕ) : Type 0 where
+  pub none : (r : Refusal) → row r .number ≡ number → ⊥
 
 -- an answer as METHOD 8 has it: a success with its values, or a refusal's number and place
 pub data Answer (A : Type 0) : Type 0 where

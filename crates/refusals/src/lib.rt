@@ -30,14 +30,13 @@ pub const EARLIEST_YEAR: usize = 1;
 
 pub const LATEST_YEAR: usize = 9999;
 
-// The rows of the sheet, in its order; a row with a place carries it.
+// The rows of the sheet, in its order; a row with a place carries it. The number 6 is retired.
 pub enum Refusal {
     TooShort,
     TooLong,
     BadStart,
     WrongLength,
     FigureOutside(usize),
-    EmptyGroup,
     NoHeader,
     BadPeriod,
     BadFileLength,
@@ -60,7 +59,6 @@ fn row_of(r: Refusal) -> Row
         Refusal::BadStart => Row(3, 0),
         Refusal::WrongLength => Row(4, 0),
         Refusal::FigureOutside(t) => Row(5, t),
-        Refusal::EmptyGroup => Row(6, 0),
         Refusal::NoHeader => Row(7, 0),
         Refusal::BadPeriod => Row(8, 0),
         Refusal::BadFileLength => Row(9, 0),

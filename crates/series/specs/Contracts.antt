@@ -5,7 +5,7 @@ use Prim.Native.Nat.{ℕ, _*_, _≤_}
 use lib.ListN.{length}
 use lib.IntN.{ℤ}
 use Rattle.integers.specs.Lists.{AllWithin}
-use Rattle.refusals.specs.Limits.{mostMonths, largestFigure}
+use Rattle.refusals.specs.Limits.{leastMonths, mostMonths, monthsOfYear, largestFigure}
 
 -- no number on either side of a difference is larger: the final trend is the largest, at most 1.44 times what is filtered (filters, Contracts)
 abbrev pub widest : ℕ
@@ -34,3 +34,10 @@ mostChange = mostMonths * (2 * widest)
 pub record Figures (figures : List ℤ) : Type 0 where
   pub short : length figures ≤ mostMonths
   pub small : AllWithin largestFigure figures
+
+-- such figures, as many as a series has, and a start month
+pub record Workable (start : ℕ) (f : List ℤ) : Type 0 where
+  pub figures : Figures f
+  pub long : leastMonths ≤ length f
+  pub early : 1 ≤ start
+  pub late : start ≤ monthsOfYear

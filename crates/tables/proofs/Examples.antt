@@ -15,7 +15,7 @@ use Rattle.seasonal_choice.specs.SeasonalChoice.{yearChanges, decide, orElse, y
 use Rattle.steps.specs.Places.{inner, nearestLevel, copied, widened}
 use Rattle.steps.specs.Steps.{level, T1, SI1, R1, M1, innerS1, S1, A1, T2, SI2, R2, M2, S2}
 use Rattle.extremes.specs.Years.{months, centre, yearOf, monthOf, years, yearStart, groupAround, group}
-use Rattle.extremes.specs.Spreads.{sizeOf, sizesOf, squares, spread, keep, remaining, secondSpread}
+use Rattle.extremes.specs.Spreads.{sizeOf, sizesOf, squares, spread, keep, limitOf, remaining, secondSpread}
 use Rattle.extremes.specs.Weighing.{weight, weightBy, monthWeight, weightsBy, weightsOf, correctionOf}
 use Rattle.tables.specs.PassB.{irregularB4, weightsB4, irregularB9, weightsB9}
 use Rattle.tables.specs.Tables.{irregularOf, corrections, B1, B7, B10, B13, B17, B20, C1, C7, C10, C13, C17, C20, D1, finalSeasonalFilter, D10, finalTerms, D12}
@@ -26,7 +26,7 @@ unfolding tabFrom tab oneMore rootIn root halfUp awayFromZero halfToEven toGrain
     filters.dot filters.weightedSum filters.byRow filters.earlier filters.later filters.valueAt filters.filter filters.reach filters.inside
     neighbours.ofFullWeight neighbours.nearest neighbours.runBefore neighbours.runAfter neighbours.fullBefore neighbours.fullAfter neighbours.neighbours
     sumAt isReplaced countedSum counted replacedAt replacedBy inner nearestLevel copied widened level T1 SI1 R1 M1 innerS1 S1 A1 T2 SI2 R2 M2 S2
-    months centre yearOf monthOf years yearStart groupAround group sizeOf sizesOf squares spread keep remaining secondSpread
+    months centre yearOf monthOf years yearStart groupAround group sizeOf sizesOf squares spread keep limitOf remaining secondSpread
     weight weightBy monthWeight weightsBy weightsOf correctionOf irregularB4 weightsB4 irregularB9 weightsB9 irregularOf corrections
     B1 B7 B10 B13 B17 B20 C1 C7 C10 C13 C17 C20 D1 finalSeasonalFilter D10 finalTerms D12 flooded rippled
 examples = (

@@ -27,7 +27,7 @@ enum-known-verdict c = search needs
 returns : tie.Need-returns
 unfolding lengthsOf
 returns c = let r = c .before .before .before in let s = r .before .before .before in
-    refused (subst (λ (k : Verdict). Checked k (s .args .start) (s .args .figures .now) (lengthsOf (lent s))) (c .before .verdict .given .1) (r .first-refusal .ensures))
+    refused _ (subst (λ (k : Verdict). Checked k (s .args .start) (s .args .figures .now) (lengthsOf (lent s))) (c .before .verdict .given .1) (r .first-refusal .ensures))
 
 enum-told : tie.Need-enum-told
 enum-told c = search needs

@@ -9,9 +9,8 @@ use lib.IntN.{ℤ, pos}
 use borrow.Author.Needs.{needs}
 use Rattle.refusals.specs.Limits.{mostMonths}
 use Rattle.extremes.specs.Spreads.{sizesOf}
-use Rattle.extremes.specs.Weighing.{weightsBy, weightsOf, answerBy, answerOf}
-use Rattle.extremes.specs.Contracts.{Calendar, Weighable, Outcome, sizesIn, runningSquares, HoldsSizes, Summed, WeighedBy}
-use Rattle.extremes.specs.declared.Weighed.{Weighed}
+use Rattle.extremes.specs.Weighing.{weightsBy, weightsOf}
+use Rattle.extremes.specs.Contracts.{Calendar, Weighable, Outcome, sizesIn, runningSquares, HoldsSizes, Summed}
 use Rattle.extremes.proofs.HeldSizes.{sizes-held, length-held, held-sizes}
 use Rattle.extremes.proofs.weights.Statement.{statement}
 use Rattle.extremes.proofs.weights.Tie as tie
@@ -33,14 +32,13 @@ module _ (x : List ℤ) {work : List ℤ} (e : work ≡ map pos (sizesOf x)) whe
     summed : {running : List ℤ} → running ≡ map pos (runningSquares (sizesIn work)) → Summed start period work running × (length out ≡ length work)
     summed f = (record { calendar = subst⁻¹ (Calendar start period) months-held (p .calendar); sizes = sizes-in; sums = f }, p .weights ∙ sym months-held)
 
-  promised : {start period : ℕ} {r : Weighed} {running : List ℤ} {out : List ℕ} → running ≡ map pos (runningSquares (sizesIn work)) → WeighedBy start period (sizesIn work) r out
-      → Outcome start period x r work running out
-  unfolding answerOf weightsOf
+  promised : {start period : ℕ} {running : List ℤ} {out : List ℕ} → running ≡ map pos (runningSquares (sizesIn work)) → out ≡ weightsBy start period (sizesIn work)
+      → Outcome start period x work running out
+  unfolding weightsOf
   promised {start} {period} f w = record {
-    answer = w .answer ∙ ap (answerBy start period) sizes-found;
     sizes = e;
     sums = f ∙ ap (λ (l : List ℕ). map pos (runningSquares l)) sizes-found;
-    weights = w .weights ∙ ap (weightsBy start period) sizes-found;
+    weights = w ∙ ap (weightsBy start period) sizes-found;
   }
 
 fill-sizes-requires : tie.Need-fill-sizes-requires

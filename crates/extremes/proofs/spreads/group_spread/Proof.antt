@@ -3,7 +3,7 @@
 use mathlib.Core.Path.{_≡_, _∙_}
 use native.Mathlib.Omega.{arith}
 use Rattle.extremes.specs.Years.{months}
-use Rattle.extremes.specs.Spreads.{squares, spread}
+use Rattle.extremes.specs.Spreads.{squares, spread, limitOf, remaining, secondSpread}
 use Rattle.extremes.specs.Contracts.{sizesIn}
 use Rattle.extremes.proofs.YearLaws.{years-few}
 use Rattle.extremes.proofs.RunningSums.{sums-range, total-is, first-is}
@@ -50,9 +50,11 @@ mul-spread-of : tie.Need-mul-spread-of
 mul-spread-of c = omega (arith, first c, found (c .before .before) .first-most)
 
 spread-of-requires : tie.Need-spread-of-requires
-spread-of-requires c κs = (found (c .before .before) .range, total (c .before))
+unfolding remaining limitOf
+spread-of-requires c κs = let f = found (c .before .before) in let e = first c in (f .range, total (c .before), rw e (f .stays))
 
 returns : tie.Need-returns
+unfolding secondSpread remaining limitOf
 returns c = let e = first (c .before) in rw e at (c .spread-of .ensures) ∙ found (c .before .before .before) .second
 
 pub group-spread-spec : {M : Type 1} → statement M

@@ -8,7 +8,7 @@ use lib.ListN.{length}
 use Rattle.extremes.specs.Years.{months}
 use Rattle.extremes.specs.Spreads.{keep, squares}
 use Rattle.extremes.specs.Contracts.{largestSize, sizesIn}
-use Rattle.extremes.proofs.SpreadLaws.{Dropping, dropping-all, one-dropped, dropping-next, dropping-done, spread-none, spread-some}
+use Rattle.extremes.proofs.SpreadLaws.{Dropping, dropping-all, one-dropped, dropping-next, dropping-done, spread-is}
 use Rattle.extremes.proofs.HeldSizes.{length-sizes}
 use Rattle.extremes.proofs.spreads.spread_of.Statement.{statement}
 use Rattle.extremes.proofs.spreads.spread_of.Tie as tie
@@ -65,17 +65,14 @@ done : (c : tie.After-loop Inv-loop μ-loop) → let s = c .before .before .befo
     (c .before .loop .sum ≡ squares g) × (c .before .loop .count ≡ length g)
 done c = let s = c .before .before .before in dropping-done (sizesIn (s .args .sizes .now)) (inside s) (c .before .loop .inv) (omega arith)
 
-returns : tie.Need-returns Inv-loop μ-loop
-returns c = spread-none _ (omega (arith, done (c .before)))
-
 div-root : tie.Need-div-root Inv-loop μ-loop
-div-root c = omega arith
+div-root c = omega (arith, done c, c .before .before .before .pre .2)
 
 root-requires : tie.Need-root-requires Inv-loop μ-loop
 root-requires c κs = tt
 
-returns-2 : tie.Need-returns-2 Inv-loop μ-loop
-returns-2 c = let d = done (c .before .before) in spread-some _ (omega arith) (d .0) (d .1) (c .root .ensures)
+returns : tie.Need-returns Inv-loop μ-loop
+returns c = let d = done (c .before) in spread-is _ (d .0) (d .1) (c .root .ensures)
 
 pub spread-of-spec : {M : Type 1} → statement M
 spread-of-spec =
@@ -94,7 +91,6 @@ spread-of-spec =
     next-above-requires-2
     loop-less
     loop-again
-    returns
     div-root
     root-requires
-    returns-2)
+    returns)

@@ -1,4 +1,4 @@
--- `extremes::weighing::weigh_groups` meets its contract: the months that the groups passed serve have their weights; no group is without a spread.
+-- `extremes::weighing::weigh_groups` meets its contract: the months that the groups passed serve have their weights.
 -- Assumes nothing.
 use Prim.Native.Nat.{ℕ, _+_, _*_, _-_, _≤_, _<_}
 use mathlib.Core.Path.{_≡_, sym, ap, _∙_}
@@ -13,11 +13,9 @@ use Rattle.extremes.specs.Years.{years, group}
 use Rattle.extremes.specs.Spreads.{secondSpread}
 use Rattle.extremes.specs.Weighing.{monthWeight, weightsBy}
 use Rattle.extremes.specs.Contracts.{sizesIn, servedFrom}
-use Rattle.extremes.specs.declared.spreads.Spread.the-variants.{Of}
 use Rattle.extremes.proofs.YearLaws.{years-some, years-few, served-first, served-end, served-order}
-use Rattle.extremes.proofs.SpreadLaws.{of-or-nothing, of-same}
 use Rattle.extremes.proofs.HeldSizes.{length-sizes, sizes-below}
-use Rattle.extremes.proofs.Groups.{always-weights, second-is, second-most, group-filled}
+use Rattle.extremes.proofs.Groups.{second-most, group-filled}
 use Rattle.extremes.proofs.weighing.weigh_groups.Statement.{statement}
 use Rattle.extremes.proofs.weighing.weigh_groups.Tie as tie
 
@@ -42,7 +40,7 @@ years-requires : tie.Need-years-requires Inv-loop μ-loop
 years-requires c κs = c .before .pre .0 .calendar
 
 enough : (c : tie.After-years Inv-loop μ-loop) → (5 ≤ c .years .result) × (c .years .result ≤ 2 * mostMonths)
-enough c = omega (arith, c .years .ensures, years-some (c .before .before .pre .0 .calendar), years-few (c .before .before .pre .0 .calendar))
+enough c = let s = c .before .before .pre .0 .calendar in omega (arith, c .years .ensures, years-some (s .early) (s .late) (s .least), years-few s)
 
 sub-last : tie.Need-sub-last Inv-loop μ-loop
 sub-last c = omega (arith, enough c)
@@ -62,38 +60,17 @@ inside i = let l = i .before in omega (arith, enough (l .before), l .before .yea
 group-spread-requires : tie.Need-group-spread-requires Inv-loop μ-loop
 group-spread-requires c κs = let s = start-of (c .before) in let i = inside c in (s .pre .0, i .0, i .2)
 
-enum-known-found : tie.Need-enum-known-found Inv-loop μ-loop
-enum-known-found c = search needs
-
-enum-told : tie.Need-enum-told Inv-loop μ-loop
-enum-told c = search needs
-
--- the group's spread is there, and is the one found
-spread-is : (c : tie.After-group-spread Inv-loop μ-loop) → let l = c .before .before in let s = start-of l in
-    c .group-spread .result ≡ Of (secondSpread (group (s .args .start) (s .args .period) (held s) (l .loop .c)))
-spread-is c = let l = c .before .before in let s = start-of l in second-is (held s) (long s) (s .pre .0 .calendar) (l .loop .c) (c .group-spread .ensures)
-
-spread-found : (c : tie.After-found Inv-loop μ-loop) → let l = c .before .before .before .before in let s = start-of l in
-    c .found .given .0 .0 ≡ secondSpread (group (s .args .start) (s .args .period) (held s) (l .loop .c))
-spread-found c = of-same (c .found .given .1) (spread-is (c .before .before))
-
-same-length : tie.Need-same-length Inv-loop μ-loop
-same-length c = c .before .before .before .before .loop .inv .3 .long
-
-returns : tie.Need-returns Inv-loop μ-loop
-returns c = absurd (of-or-nothing (spread-is (c .before .before)) (c .enum-told .given .1))
-
 served-from-requires : tie.Need-served-from-requires Inv-loop μ-loop
-served-from-requires c κs = let i = c .before .before .before .before in (start-of (i .before) .pre .0 .calendar, omega (arith, inside i))
+served-from-requires c κs = let i = c .before in (start-of (i .before) .pre .0 .calendar, omega (arith, inside i))
 
 add-served-from : tie.Need-add-served-from Inv-loop μ-loop
-add-served-from c = omega (arith, inside (c .before .before .before .before .before))
+add-served-from c = omega (arith, inside (c .before .before))
 
 served-from-requires-2 : tie.Need-served-from-requires-2 Inv-loop μ-loop
-served-from-requires-2 c κs = let i = c .before .before .before .before .before in (start-of (i .before) .pre .0 .calendar, omega (arith, inside i))
+served-from-requires-2 c κs = let i = c .before .before in (start-of (i .before) .pre .0 .calendar, omega (arith, inside i))
 
 abbrev turn : tie.After-served-from2 Inv-loop μ-loop → tie.In-loop Inv-loop μ-loop
-turn b = b .before .before .before .before .before .before
+turn b = b .before .before .before
 
 fill-weights-requires : tie.Need-fill-weights-requires Inv-loop μ-loop
 fill-weights-requires c κs = let b = c .before in let i = inside (turn b) in let l = turn b .before in let s = start-of l in
@@ -105,7 +82,7 @@ fill-weights-requires c κs = let b = c .before in let i = inside (turn b) in le
         sizes = s .pre .0 .sizes;
       },
       l .loop .inv .3 .long ∙ s .pre .1,
-      omega (arith, spread-found (b .before .before .before), second-most (held s) (long s) (s .pre .0 .calendar) (sizes-below (s .pre .0 .sizes .small)) (l .loop .c)),
+      omega (arith, b .before .before .group-spread .ensures, second-most (held s) (long s) (s .pre .0 .calendar) (sizes-below (s .pre .0 .sizes .small)) (l .loop .c)),
     )
 
 add-c : tie.Need-add-c Inv-loop μ-loop
@@ -120,20 +97,18 @@ loop-again c = let b = c .before .before .before .before in let i = inside (turn
   omega (arith, i),
   l .loop .inv .2,
   group-filled (held s) (long s) (s .pre .0 .calendar) (l .loop .inv .2) (l .loop .c) (i .0) (i .1)
-      (spread-found (b .before .before .before)) (b .before .served-from .ensures) (b .served-from2 .ensures) (l .loop .inv .3) (c .before .before .fill-weights .ensures),
+      (b .before .before .group-spread .ensures) (b .before .served-from .ensures) (b .served-from2 .ensures) (l .loop .inv .3) (c .before .before .fill-weights .ensures),
 )
 
-same-length-2 : tie.Need-same-length-2 Inv-loop μ-loop
-same-length-2 c = c .before .loop .inv .3 .long
+same-length : tie.Need-same-length Inv-loop μ-loop
+same-length c = c .before .loop .inv .3 .long
 
-returns-2 : tie.Need-returns-2 Inv-loop μ-loop
+returns : tie.Need-returns Inv-loop μ-loop
 unfolding weightsBy
-returns-2 c = let l = c .before in let s = start-of l in let last = l .before .years .result - 3 in
-    let e : l .loop .c ≡ last + 1 = omega (arith, l .loop .inv .1, c .loop-test) in record {
-      answer = sym (always-weights (held s) (long s) (s .pre .0 .calendar));
-      weights = filled-tab (l .loop .inv .3)
-          (ap (servedFrom (s .args .start) (s .args .period) (length (s .args .sizes .now)) last) e ∙ served-end (s .pre .0 .calendar) (l .loop .inv .2) ∙ sym (long s)) (s .pre .1 ∙ sym (long s));
-    }
+returns c = let l = c .before in let s = start-of l in let last = l .before .years .result - 3 in
+    let e : l .loop .c ≡ last + 1 = omega (arith, l .loop .inv .1, c .loop-test) in
+    filled-tab (l .loop .inv .3)
+    (ap (servedFrom (s .args .start) (s .args .period) (length (s .args .sizes .now)) last) e ∙ served-end (s .pre .0 .calendar) (l .loop .inv .2) ∙ sym (long s)) (s .pre .1 ∙ sym (long s))
 
 pub weigh-groups-spec : {M : Type 1} → statement M
 weigh-groups-spec =
@@ -146,10 +121,6 @@ weigh-groups-spec =
     add-c-end
     loop-holds
     group-spread-requires
-    enum-known-found
-    enum-told
-    same-length
-    returns
     served-from-requires
     add-served-from
     served-from-requires-2
@@ -157,5 +128,5 @@ weigh-groups-spec =
     add-c
     loop-less
     loop-again
-    same-length-2
-    returns-2)
+    same-length
+    returns)

@@ -12,15 +12,14 @@ use Rattle.series.specs.Contracts.{Minusable}
 use Rattle.series.proofs.Lengths.{length-minus, length-times}
 use Rattle.series.proofs.Largest.{larger, within-minus}
 use Rattle.extremes.specs.Contracts.{Weighable}
-use Rattle.extremes.specs.Weighing.{weightsOf, answerOf}
-use Rattle.extremes.specs.declared.Weighed.{Weighed}
+use Rattle.extremes.specs.Weighing.{weightsOf}
 use Rattle.extremes.proofs.WeighingLaws.{length-weights, weights-most}
 use Rattle.tables.specs.Tables.{irregularOf, corrections}
 use Rattle.tables.specs.Bounds.{largestB1, largestC13}
 use Rattle.tables.proofs.Sizes.{length-irregular, within-irregular}
 use Rattle.figures.specs.Contracts.{WithSeasonal, WithWeights}
-use Rattle.decompose.specs.Contracts.{Correctable, lessExtremes, ExtremesCorrected}
-use Rattle.decompose.proofs.Grains.{within-grains}
+use Rattle.three_passes.specs.Contracts.{Correctable, lessExtremes, ExtremesCorrected}
+use Rattle.three_passes.proofs.Grains.{within-grains}
 
 module _ {start : ℕ} {f s t : List ℤ} (h : Correctable start f s t) where
   abbrev b1 : List ℤ
@@ -75,7 +74,7 @@ module _ {start : ℕ} {f s t : List ℤ} (h : Correctable start f s t) where
       light = λ t l. weights-most start monthsOfYear b t;
     })
 
-    pub extremes-corrected : {r : Weighed} {w : List ℕ} {o : List ℤ} → r ≡ answerOf start monthsOfYear b → w ≡ weightsOf start monthsOfYear b → o ≡ minus b1 (corrections b w)
-        → ExtremesCorrected start b1 s t r o b w
+    pub extremes-corrected : {w : List ℕ} {o : List ℤ} → w ≡ weightsOf start monthsOfYear b → o ≡ minus b1 (corrections b w)
+        → ExtremesCorrected start b1 s t o b w
     unfolding lessExtremes
-    extremes-corrected i j k = record { answered = i ∙ ap (answerOf start monthsOfYear) e; series = k ∙ rw (j, e); irregular = e; weights = j ∙ ap (weightsOf start monthsOfYear) e }
+    extremes-corrected i k = record { series = k ∙ rw (i, e); irregular = e; weights = i ∙ ap (weightsOf start monthsOfYear) e }

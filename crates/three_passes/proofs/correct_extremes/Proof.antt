@@ -1,14 +1,14 @@
--- `decompose::correct_extremes` meets its contract: the irregular, its weights, and the series less its corrections.
+-- `three_passes::correct_extremes` meets its contract: the irregular, its weights, and the series less its corrections.
 -- Assumes nothing.
 use mathlib.Core.Path.{_≡_}
 use native.Mathlib.Omega.{arith}
 use Rattle.refusals.specs.Limits.{unit}
 use Rattle.series.specs.Operations.{times}
 use Rattle.tables.specs.Tables.{irregularOf}
-use Rattle.decompose.proofs.Correcting.{beside, minusable, to-irregular, weighable, weighted, extremes-corrected}
+use Rattle.three_passes.proofs.Correcting.{beside, minusable, to-irregular, weighable, weighted, extremes-corrected}
 use borrow.Author.Needs.{needs}
-use Rattle.decompose.proofs.correct_extremes.Statement.{statement}
-use Rattle.decompose.proofs.correct_extremes.Tie as tie
+use Rattle.three_passes.proofs.correct_extremes.Statement.{statement}
+use Rattle.three_passes.proofs.correct_extremes.Tie as tie
 
 -- what stands in b after the differences
 is-irregular : (m : tie.After-minus) → let a = m .before .before .before .before .before .before .before .args in m .minus .last .1 .1 .0 ≡ irregularOf (times unit (a .figures .now)) (a .s .now) (a .t .now)
@@ -44,7 +44,7 @@ same-length-4 c = search needs
 
 returns : tie.Need-returns
 returns c = let g = c .before .before .before .before .before .before .before .before .before in let m = g .before .before .before .before .before .before in let s = m .before .before .before .before .before .before .before .pre in
-    extremes-corrected (s .0) (is-irregular m) (g .weights .ensures .answer) (g .weights .ensures .weights) (c .before .corrected .ensures)
+    extremes-corrected (s .0) (is-irregular m) (g .weights .ensures .weights) (c .before .corrected .ensures)
 
 pub correct-extremes-spec : {M : Type 1} → statement M
 correct-extremes-spec =

@@ -1,13 +1,13 @@
--- `decompose::to_d1` meets its contract: pass C, then its extremes corrected.
+-- `three_passes::to_d1` meets its contract: pass C, then its extremes corrected.
 -- Assumes nothing.
 use native.Mathlib.Omega.{arith}
 use mathlib.Core.Path.{_≡_, ap, _∙_}
 use lib.ListN.{length}
 use Rattle.tables.proofs.Sizes.{length-c1}
-use Rattle.decompose.proofs.Passes.{series-c, correctable-c, to-d1}
+use Rattle.three_passes.proofs.Passes.{series-c, correctable-c, to-d1}
 use borrow.Author.Needs.{needs}
-use Rattle.decompose.proofs.to_d1.Statement.{statement}
-use Rattle.decompose.proofs.to_d1.Tie as tie
+use Rattle.three_passes.proofs.to_d1.Statement.{statement}
+use Rattle.three_passes.proofs.to_d1.Tie as tie
 
 -- x is as long as the figures
 x-long : (s : tie.Start) → length (s .args .x .now) ≡ length (s .args .figures .now)

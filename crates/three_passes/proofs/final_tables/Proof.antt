@@ -1,10 +1,10 @@
--- `decompose::final_tables` meets its contract: each call leaves the next table of pass D.
+-- `three_passes::final_tables` meets its contract: each call leaves the next table of pass D.
 -- Assumes nothing.
 use native.Mathlib.Omega.{arith}
-use Rattle.decompose.proofs.Passes.{series, adjustable, beside, minusable, finished}
+use Rattle.three_passes.proofs.Passes.{series, adjustable, beside, minusable, finished}
 use borrow.Author.Needs.{needs}
-use Rattle.decompose.proofs.final_tables.Statement.{statement}
-use Rattle.decompose.proofs.final_tables.Tie as tie
+use Rattle.three_passes.proofs.final_tables.Statement.{statement}
+use Rattle.three_passes.proofs.final_tables.Tie as tie
 
 one-pass-requires : tie.Need-one-pass-requires
 one-pass-requires c κs = let s = c .before .before .before .before in let w = s .pre .1 in let l = s .pre .0 .x-long in

@@ -1,10 +1,10 @@
--- `decompose::to_c1` meets its contract: B1, then pass B, then its extremes corrected.
+-- `three_passes::to_c1` meets its contract: B1, then pass B, then its extremes corrected.
 -- Assumes nothing.
 use native.Mathlib.Omega.{arith}
-use Rattle.decompose.proofs.Passes.{series-b, correctable-b, to-c1}
+use Rattle.three_passes.proofs.Passes.{series-b, correctable-b, to-c1}
 use borrow.Author.Needs.{needs}
-use Rattle.decompose.proofs.to_c1.Statement.{statement}
-use Rattle.decompose.proofs.to_c1.Tie as tie
+use Rattle.three_passes.proofs.to_c1.Statement.{statement}
+use Rattle.three_passes.proofs.to_c1.Tie as tie
 
 in-grains-requires : tie.Need-in-grains-requires
 in-grains-requires c κs = search needs

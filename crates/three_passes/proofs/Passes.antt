@@ -25,27 +25,19 @@ use Rattle.steps.proofs.Largest as pass
 use Rattle.steps.proofs.Lengths.{length-t2, length-s2}
 use Rattle.pass.specs.Contracts.{PassSeries, Adjustable, PassDone}
 use Rattle.pass_b.specs.Contracts.{PassBSeries, PassBDone}
-use Rattle.extremes.specs.Weighing.{answerOf}
-use Rattle.extremes.specs.declared.Weighed.{Weighed}
-use Rattle.extremes.specs.declared.Weighed.the-variants.{Weights, EmptyGroup}
-use Rattle.extremes.proofs.WeighingLaws.{always-weighed}
-use Rattle.tables.specs.Tables.{choicesD, irregularOf, B1, B7, B10, B13, B17, B20, C1, C7, C10, C13, C17, C20, D1, finalSeasonalFilter, finalTerms}
+use Rattle.tables.specs.Tables.{choicesD, B1, B7, B10, B13, B17, B20, C1, C7, C10, C13, C17, C20, D1, finalSeasonalFilter, D10, D11, finalTerms, D12, D13}
 use Rattle.tables.specs.Bounds.{largestC1, largestC7, largestD7, largestD10, largestD12}
-use Rattle.tables.proofs.Sizes.{length-irregular, length-c1, length-c7, length-c10, length-c13, length-d1, within-c1, within-c7, within-c10, within-c13, within-d1}
+use Rattle.tables.proofs.Sizes.{length-c1, length-c7, length-c10, length-c13, length-d1, within-c1, within-c7, within-c10, within-c13, within-d1}
 use Rattle.trend_length.specs.TrendLength.{trendLength}
 use Rattle.trend_length.specs.Contracts.{Measurable}
 use Rattle.seasonal_choice.specs.SeasonalChoice.{chosenFilter}
 use Rattle.seasonal_choice.specs.Contracts.{Choosable}
 use Rattle.figures.specs.Contracts.{WithSeasonal}
-use Rattle.checks.specs.Contracts.{Workable}
-use Rattle.decompose.specs.Contracts.{Correctable, lessExtremes, ExtremesCorrected, CorrectedTo, ChoiceTables, Final, Finished}
-use Rattle.decompose.proofs.Grains.{within-grains}
+use Rattle.series.specs.Contracts.{Workable}
+use Rattle.three_passes.specs.Contracts.{Correctable, lessExtremes, ExtremesCorrected, CorrectedTo, ChoiceTables, Final, Finished}
+use Rattle.three_passes.proofs.Grains.{within-grains}
 
 -- ---- passes B and C
--- a group is emptied or not
-pub not-both : {r : Weighed} → r ≡ Weights → r ≡ EmptyGroup → ⊥
-not-both e f = let z : _≡_ {A = ℕ} 0 1 = cc in omega arith
-
 module _ {start : ℕ} {f : List ℤ} (h : Workable start f) where
   -- the seasonal and the trend of a pass on a series that is no larger than C1
   correctable : {c : Choices} → Sound c → {x s t : List ℤ} → length x ≡ length f → AllWithin largestC1 x → s ≡ S2 c x → t ≡ T2 c x → Correctable start f s t
@@ -56,14 +48,6 @@ module _ {start : ℕ} {f : List ℤ} (h : Workable start f) where
     s-small = pass.s2 ok k largestC7 (omega arith);
     t-small = pass.t2 ok k largestC7 (omega arith);
   })
-
-  -- an irregular is always weighed
-  weighed : (s t : List ℤ) → answerOf start monthsOfYear (irregularOf (times unit f) s t) ≡ Weights
-  weighed s t = always-weighed (irregularOf (times unit f) s t)
-      (record { least = omega (arith, l, h .long); most = omega (arith, l, h .figures .short); early = h .early; late = h .late })
-    where
-      l : length (irregularOf (times unit f) s t) ≡ length f
-      l = length-irregular (times unit f) s t ∙ length-times unit f
 
   -- pass B: x is B1, and C1 comes after it
   module _ {x : List ℤ} (e : x ≡ times unit f) where
@@ -79,9 +63,9 @@ module _ {start : ℕ} {f : List ℤ} (h : Workable start f) where
     pub correctable-b : {s t : List ℤ} → PassBDone start x t s → Correctable start f s t
     correctable-b d = correctable (monthly-sound _ _ _) (ap length e ∙ length-times unit f) (rw e (larger (within-grains (h .figures)) (omega arith))) (d .seasonal) (d .trend)
 
-    pub to-c1 : {s t o i : List ℤ} {r : Weighed} {w : List ℕ} → PassBDone start x t s → ExtremesCorrected start (times unit f) s t r o i w → CorrectedTo (C1 start f) (B17 start f) r o w
+    pub to-c1 : {s t o i : List ℤ} {w : List ℕ} → PassBDone start x t s → ExtremesCorrected start (times unit f) s t o i w → CorrectedTo (C1 start f) (B17 start f) o w
     unfolding lessExtremes C1 B20 B17 B13 B10 B7 B1
-    to-c1 {s} {t} d k = record { answered = k .answered ∙ weighed s t; series-is = k .series ∙ rw (d .seasonal, d .trend, e); weights-is = k .weights ∙ rw (d .seasonal, d .trend, e) }
+    to-c1 d k = record { series-is = k .series ∙ rw (d .seasonal, d .trend, e); weights-is = k .weights ∙ rw (d .seasonal, d .trend, e) }
 
   -- pass C: x is C1, and D1 comes after it
   module _ {x : List ℤ} (e : x ≡ C1 start f) where
@@ -97,11 +81,11 @@ module _ {start : ℕ} {f : List ℤ} (h : Workable start f) where
     pub correctable-c : {s t : List ℤ} → PassDone ThreeByFive x t s → Correctable start f s t
     correctable-c d = correctable plain-sound length-c small-c (d .seasonal) (d .trend)
 
-    pub to-d1 : {s t o i : List ℤ} {r : Weighed} {w : List ℕ} → PassDone ThreeByFive x t s → ExtremesCorrected start (times unit f) s t r o i w
-        → CorrectedTo (D1 start f) (C17 start f) r o w × ChoiceTables start f i t s
+    pub to-d1 : {s t o i : List ℤ} {w : List ℕ} → PassDone ThreeByFive x t s → ExtremesCorrected start (times unit f) s t o i w
+        → CorrectedTo (D1 start f) (C17 start f) o w × ChoiceTables start f i t s
     unfolding lessExtremes D1 C20 C17 C13 C10 C7 B1
-    to-d1 {s} {t} d k = (
-      record { answered = k .answered ∙ weighed s t; series-is = k .series ∙ rw (d .seasonal, d .trend, e); weights-is = k .weights ∙ rw (d .seasonal, d .trend, e) },
+    to-d1 d k = (
+      record { series-is = k .series ∙ rw (d .seasonal, d .trend, e); weights-is = k .weights ∙ rw (d .seasonal, d .trend, e) },
       record { irregular = k .irregular ∙ rw (d .seasonal, d .trend, e); trend = d .trend ∙ rw e; seasonal = d .seasonal ∙ rw e },
     )
 
@@ -175,6 +159,8 @@ pub finished : {g : SeasonalFilter} {terms : Terms} {b1 x s a t d : List ℤ} �
     → Finished g terms b1 x s a t d
 finished e i j k = record { seasonal = e; adjusted = i ∙ rw e; trend = j ∙ rw e; irregular = k ∙ rw (i, j, e) }
 
--- by another name of the filter and the length
-pub by-names : {k g : SeasonalFilter} {m terms : Terms} {b1 x s a t d : List ℤ} → k ≡ g → m ≡ terms → Finished k m b1 x s a t d → Finished g terms b1 x s a t d
-by-names e i h = rw (e, i) at h
+-- D10 to D13, by the filter and the length that the rules choose
+pub final-d : (start : ℕ) (f : List ℤ) {g : SeasonalFilter} {m : Terms} {x s a t d : List ℤ} → g ≡ finalSeasonalFilter start f → m ≡ finalTerms start f → x ≡ D1 start f → Finished g m (times unit f) x s a t d
+    → (s ≡ D10 start f) × (a ≡ D11 start f) × (t ≡ D12 start f) × (d ≡ D13 start f)
+unfolding D13 D12 D11 D10 B1
+final-d start f e i j h = (h .seasonal ∙ rw (e, j), h .adjusted ∙ rw (e, j), h .trend ∙ rw (e, i, j), h .irregular ∙ rw (e, i, j))

@@ -1,0 +1,4 @@
+-- Laws of the three passes.
+pub mod Grains
+pub mod Correcting
+pub mod Passes
