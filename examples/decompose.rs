@@ -42,7 +42,6 @@ fn refusal_text(number: u8) -> &'static str {
         3 => "start month outside 1 to 12",
         4 => "a lent slice has the wrong length",
         5 => "a figure outside -200,000 to 200,000",
-        6 => "dropping leaves a group empty",
         7 => "a file of fewer bytes than its header, or a members' sheet than its sizes",
         8 => "the file's period is not 12",
         9 => "the length of the file or members' sheet is not that of n months",

@@ -31,9 +31,9 @@
 /* The version of this header and of the library that goes with it (the library does not tell its own), major.minor.patch. The minor number
    goes up with every landing that changes what callers see, the patch number with every other; the major number is 0 while functions and
    constants may still change. */
-#define VEPSJALM_VERSION "0.17.0"
+#define VEPSJALM_VERSION "0.18.0"
 #define VEPSJALM_VERSION_MAJOR 0
-#define VEPSJALM_VERSION_MINOR 17
+#define VEPSJALM_VERSION_MINOR 18
 #define VEPSJALM_VERSION_PATCH 0
 
 /* The limits. */
@@ -71,22 +71,23 @@
 
    The checks, of which the first that applies is the answer, so that all figures are looked at before any weight:
 
-       decomposing                                    1, 2, 3, 4, 5, 6
+       decomposing                                    1, 2, 3, 4, 5
        reading                                        7, 1, 2, 3, 8, 9, 4, 5, 10
        writing                                        1, 2, 3, 4, 5, 10
        reading by calendar month, moving either way   7, 1, 2, 3, 8, 11, 9, 4, 5, 10
        writing by calendar month                      1, 2, 3, 11, 4, 5, 10
        reading a members' sheet                       7, 1, 2, 3, 9, 4, then of each cell, in order of t, 12, 13, 14
 
-   In moving, 7 and 9 are of the file that is moved, 4 of the output. A refusal changes no slice; only 6, which is proved never to happen,
-   would leave the scratch as success does. */
+   In moving, 7 and 9 are of the file that is moved, 4 of the output. A refusal changes no slice.
+
+   There is no 6. It was VEPSJALM_EMPTY_GROUP, for a group of months that dropping would leave empty, which is proved never to happen. The number
+   is retired: no function answers it, and it is not used again. */
 #define VEPSJALM_SUCCESS 0
 #define VEPSJALM_TOO_SHORT 1
 #define VEPSJALM_TOO_LONG 2
 #define VEPSJALM_BAD_START 3
 #define VEPSJALM_WRONG_LENGTH 4
 #define VEPSJALM_FIGURE_OUTSIDE 5
-#define VEPSJALM_EMPTY_GROUP 6
 #define VEPSJALM_NO_HEADER 7
 #define VEPSJALM_BAD_PERIOD 8
 #define VEPSJALM_BAD_FILE_LENGTH 9
@@ -106,7 +107,6 @@ static inline const char *vepsjalm_refusal_text(uint8_t number)
     case VEPSJALM_BAD_START:       return "start month outside 1 to 12";
     case VEPSJALM_WRONG_LENGTH:    return "a lent slice has the wrong length";
     case VEPSJALM_FIGURE_OUTSIDE:  return "a figure outside -200,000 to 200,000";
-    case VEPSJALM_EMPTY_GROUP:     return "dropping leaves a group empty";
     case VEPSJALM_NO_HEADER:       return "a file of fewer bytes than its header, or a members' sheet than its sizes";
     case VEPSJALM_BAD_PERIOD:      return "the file's period is not 12";
     case VEPSJALM_BAD_FILE_LENGTH: return "the length of the file or members' sheet is not that of n months";
