@@ -26,7 +26,11 @@ impl fmt::Display for Refusal {
     }
 }
 
+/// The numbers of the refusal sheet.  6 is retired and not used again.
+pub const ROWS: [u8; 13] = [1, 2, 3, 4, 5, 7, 8, 9, 10, 11, 12, 13, 14];
+
 pub fn refuse<T>(number: u8, place: usize) -> Result<T, Refusal> {
+    assert!(ROWS.contains(&number), "{number} is no row of the refusal sheet");
     Err(Refusal { number, place })
 }
 
@@ -141,7 +145,7 @@ fn corrections(irregular: &[i64], weights: &[u16]) -> Vec<i64> {
     irregular.iter().zip(weights).map(|(&i, &w)| correction(i, w)).collect()
 }
 
-/// Decomposes a series, after the checks 1, 2, 3, 4, 5 and 6 in that order.
+/// Decomposes a series, after the checks 1, 2, 3, 4 and 5 in that order.
 pub fn decompose(figures: &[i32], start: u8, lent: &Lent) -> Result<Tables, Refusal> {
     let n = figures.len();
     check_size_and_start(n, start)?;
@@ -149,18 +153,18 @@ pub fn decompose(figures: &[i32], start: u8, lent: &Lent) -> Result<Tables, Refu
         return refuse(4, 0);
     }
     check_figures(figures)?;
-    work(figures, start)
+    Ok(work(figures, start))
 }
 
-fn work(figures: &[i32], start: u8) -> Result<Tables, Refusal> {
+fn work(figures: &[i32], start: u8) -> Tables {
     let labels = labels(start, figures.len());
     let b1: Vec<i64> = figures.iter().map(|&figure| i64::from(figure) * 1000).collect();
 
-    let PassB { steps: b, b4, b9 } = pass_b(&b1, &labels)?;
+    let PassB { steps: b, b4, b9 } = pass_b(&b1, &labels);
     let b7 = b.t2.values.clone();
     let b10 = b.s2.values.clone();
     let b13 = less(&less(&b1, &b10), &b7);
-    let b17 = weights(&b13, &labels)?;
+    let b17 = weights(&b13, &labels);
     let b20 = corrections(&b13, &b17);
     let c1 = less(&b1, &b20);
 
@@ -168,7 +172,7 @@ fn work(figures: &[i32], start: u8) -> Result<Tables, Refusal> {
     let c7 = c.t2.values.clone();
     let c10 = c.s2.values.clone();
     let c13 = less(&less(&b1, &c10), &c7);
-    let c17 = weights(&c13, &labels)?;
+    let c17 = weights(&c13, &labels);
     let c20 = corrections(&c13, &c17);
     let d1 = less(&b1, &c20);
 
@@ -184,7 +188,7 @@ fn work(figures: &[i32], start: u8) -> Result<Tables, Refusal> {
     let d12 = d12_exact.rounded().values;
     let d13 = less(&d11, &d12);
 
-    Ok(Tables {
+    Tables {
         b1,
         b,
         b4,
@@ -212,7 +216,7 @@ fn work(figures: &[i32], start: u8) -> Result<Tables, Refusal> {
         d12,
         d13,
         d12_halves,
-    })
+    }
 }
 
 /// Decomposing with slices of just the right lengths.

@@ -3,7 +3,6 @@
 //! book, SI2 its tables B9.
 
 use crate::calendar::{labels_of_part, run, Label};
-use crate::decompose::Refusal;
 use crate::exact_b::Held;
 use crate::pass::{seasonal, Fractions, Placed, Seasonal};
 use crate::rows::SeasonalFilter;
@@ -90,11 +89,11 @@ pub struct Extremes {
 impl Extremes {
     /// Works a table's extreme values, with the labels of the whole series.
     /// The years of the weights are those of the months that the table has.
-    pub fn of(si: &Placed, filter: SeasonalFilter, labels: &[Label]) -> Result<Extremes, Refusal> {
+    pub fn of(si: &Placed, filter: SeasonalFilter, labels: &[Label]) -> Extremes {
         let seasonal = seasonal(si, filter);
         let irregular = si.less(&seasonal.s);
         let labels = labels_of_part(labels, si.first, si.last());
-        let weights = weights(&irregular.values, &labels)?;
+        let weights = weights(&irregular.values, &labels);
 
         let mut means = Fractions { first: si.first, values: vec![(0, 1); labels.len()] };
         let mut months = vec![Vec::new(); labels.len()];
@@ -110,7 +109,7 @@ impl Extremes {
             }
         }
         let replaced = means.rounded();
-        Ok(Extremes { seasonal, irregular, weights, neighbours: months, replaced, halves: means.halves() })
+        Extremes { seasonal, irregular, weights, neighbours: months, replaced, halves: means.halves() }
     }
 
     /// The weight of month t of the series.

@@ -1,6 +1,6 @@
 //! Additive X-11 seasonal adjustment of one monthly series, and the desk
 //! file, worked from document 01 ("Exact scope and rules for the additive
-//! X-11 desk") and requests 1/12 to 3/12 and 5/12 to 7/12 of document 02 alone.
+//! X-11 desk") and requests 1/12 to 3/12 and 5/12 to 9/12 of document 02 alone.
 //! It is meant to stand beside another program: the two are given the same
 //! series and files, and their tables and bytes are compared.
 //!

@@ -291,7 +291,7 @@ fn print_pass(steps: &Steps) -> String {
 
 fn print_weights(irregular: &[i64], start: u8) -> Result<String, Refusal> {
     check_size_and_start(irregular.len(), start)?;
-    let list = weights(irregular, &labels(start, irregular.len()))?;
+    let list = weights(irregular, &labels(start, irregular.len()));
     let mut text = String::new();
     for (t, weight) in list.iter().enumerate() {
         text.push_str(&format!("{t} {weight}\n"));

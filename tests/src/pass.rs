@@ -2,7 +2,6 @@
 //! which is then rounded once to whole grains, a half to the even one.
 
 use crate::calendar::{labels, run, Label};
-use crate::decompose::Refusal;
 use crate::extremes::Extremes;
 use crate::rounding::{is_half, nearest_even};
 use crate::rows::{henderson_at, SeasonalFilter, ThreeByFive, ThreeByThree, T2_TERMS};
@@ -280,17 +279,16 @@ pub struct PassB {
 }
 
 /// Pass B over a series of at least 72 grains, with the labels of its
-/// months.  R1 and R2 come from the tables with extreme values replaced; row
-/// 6 of the sheet answers for both weighings.
-pub fn pass_b(series: &[i64], labels: &[Label]) -> Result<PassB, Refusal> {
+/// months.  R1 and R2 come from the tables with extreme values replaced.
+pub fn pass_b(series: &[i64], labels: &[Label]) -> PassB {
     let x = series_of_a_pass(series);
     let one = first_trend(&x);
-    let b4 = Extremes::of(&one.si1, ThreeByThree, labels)?;
+    let b4 = Extremes::of(&one.si1, ThreeByThree, labels);
     let early = seasonal(&b4.replaced, ThreeByThree);
     let two = second_trend(&x, &early.s);
-    let b9 = Extremes::of(&two.si2, ThreeByFive, labels)?;
+    let b9 = Extremes::of(&two.si2, ThreeByFive, labels);
     let late = seasonal(&b9.replaced, ThreeByFive);
-    Ok(PassB { steps: gathered(x, one, early, two, late), b4, b9 })
+    PassB { steps: gathered(x, one, early, two, late), b4, b9 }
 }
 
 #[cfg(test)]

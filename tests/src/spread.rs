@@ -1,7 +1,6 @@
 //! Spreads of the irregular and the weights of extremes.
 
 use crate::calendar::{by_year, group, year_of_the_group, Label};
-use crate::decompose::Refusal;
 use crate::rounding::{nearest_away, nearest_even};
 
 /// The greatest whole number whose square is not above the operand.
@@ -24,29 +23,27 @@ pub fn units(grains: i64) -> i64 {
 }
 
 /// The spread of some sizes: the root of the whole part of the mean square.
-/// Nothing comes of an empty group.
-pub fn spread(sizes: &[u64]) -> Option<u64> {
-    if sizes.is_empty() {
-        return None;
-    }
+pub fn spread(sizes: &[u64]) -> u64 {
+    assert!(!sizes.is_empty(), "a spread of no months");
     let mut squares = 0u128;
     for &size in sizes {
         squares += u128::from(size) * u128::from(size);
     }
     let mean = squares / sizes.len() as u128;
-    u64::try_from(root(mean)).ok()
+    u64::try_from(root(mean)).expect("a root of 63 bits")
 }
 
-/// First and second spread of a group; nothing if dropping leaves it empty.
-pub fn two_spreads(sizes: &[u64]) -> Option<(u64, u64)> {
-    let first = spread(sizes)?;
+/// First and second spread of a group.  Its smallest month is never above the
+/// first spread, so some month stays for the second.
+pub fn two_spreads(sizes: &[u64]) -> (u64, u64) {
+    let first = spread(sizes);
     let kept: Vec<u64> = sizes
         .iter()
         .copied()
         .filter(|&size| 2 * u128::from(size) <= 5 * u128::from(first))
         .collect();
-    let second = spread(&kept)?;
-    Some((first, second))
+    assert!(!kept.is_empty(), "every month of a group is dropped: {sizes:?}");
+    (first, spread(&kept))
 }
 
 /// The weight of a month, in thousandths, from the size of its irregular
@@ -69,30 +66,27 @@ pub fn weight(size: u64, second_spread: u64) -> u16 {
 }
 
 /// The spreads of every year: for each calendar year, first and second.
-pub fn spreads_by_year(irregular: &[i64], labels: &[Label]) -> Result<Vec<(u64, u64)>, Refusal> {
+pub fn spreads_by_year(irregular: &[i64], labels: &[Label]) -> Vec<(u64, u64)> {
     let mut list = Vec::new();
     for &year in by_year(labels).keys() {
         let centre = year_of_the_group(labels, year);
         let sizes: Vec<u64> =
             group(labels, centre).iter().map(|&t| units(irregular[t]).unsigned_abs()).collect();
-        match two_spreads(&sizes) {
-            Some(pair) => list.push(pair),
-            None => return Err(Refusal { number: 6, place: 0 }),
-        }
+        list.push(two_spreads(&sizes));
     }
-    Ok(list)
+    list
 }
 
 /// The weights of an irregular table in grains.
-pub fn weights(irregular: &[i64], labels: &[Label]) -> Result<Vec<u16>, Refusal> {
+pub fn weights(irregular: &[i64], labels: &[Label]) -> Vec<u16> {
     assert_eq!(irregular.len(), labels.len());
-    let spreads = spreads_by_year(irregular, labels)?;
+    let spreads = spreads_by_year(irregular, labels);
     let mut list = Vec::new();
     for (t, label) in labels.iter().enumerate() {
         let (_, second) = spreads[label.year];
         list.push(weight(units(irregular[t]).unsigned_abs(), second));
     }
-    Ok(list)
+    list
 }
 
 /// The correction of a month in grains: its irregular times 1,000 less its
@@ -137,13 +131,8 @@ mod tests {
     }
 
     #[test]
-    fn dropping_never_empties_a_group_of_one_or_two_sizes() {
-        for a in 0..60u64 {
-            for b in 0..60u64 {
-                assert!(two_spreads(&[a, b]).is_some());
-                assert!(two_spreads(&[a, a, a, b, b]).is_some());
-            }
-        }
-        assert!(two_spreads(&[]).is_none());
+    #[should_panic(expected = "a spread of no months")]
+    fn a_spread_needs_a_month() {
+        spread(&[]);
     }
 }

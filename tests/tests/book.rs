@@ -751,8 +751,8 @@ fn weights_beside_the_book() {
         ("C16bis", "C17", first_c, second_c, vec![1988, 1989]),
     ] {
         let irregular: Vec<i64> = placed(&tables[from]).values.iter().map(|v| (v - 100_000) * 1_000_000).collect();
-        let spreads = spreads_by_year(&irregular, &labels).unwrap();
-        let ours = weights(&irregular, &labels).unwrap();
+        let spreads = spreads_by_year(&irregular, &labels);
+        let ours = weights(&irregular, &labels);
         let printed = placed(&tables[to]);
         for year in 1988..=1992usize {
             let (one, two) = spreads[year - 1985];
@@ -794,12 +794,12 @@ fn weights_of_b4_and_b9_beside_the_book() {
         let labels = labels_of_part(&labels(10, N), printed.first, printed.last());
         let irregular: Vec<i64> = printed.values.iter().map(|v| (v - 100_000) * 1_000_000).collect();
         let close = |units: u64, percent: f64| (units as f64 / 1e6 - percent).abs() < 0.00011;
-        for (index, &(one, two)) in spreads_by_year(&irregular, &labels).unwrap().iter().enumerate() {
+        for (index, &(one, two)) in spreads_by_year(&irregular, &labels).iter().enumerate() {
             let year = first_year + index;
             assert_eq!(close(one, first[&(year - 1985)]), five_full_years.contains(&year), "{to} {year}");
             assert_eq!(close(two, second[&(year - 1985)]), five_full_years.contains(&year), "{to} {year}");
         }
-        let ours = weights(&irregular, &labels).unwrap();
+        let ours = weights(&irregular, &labels);
         let mut compared = 0;
         for (index, label) in labels.iter().enumerate() {
             if five_full_years.contains(&(first_year + label.year)) {

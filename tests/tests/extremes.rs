@@ -1,6 +1,9 @@
 //! Extreme values of SI1 and SI2 in pass B: neighbours and means worked by hand, then every made-up series worked in a second way, with
 //! places counted by twelves and years by division instead of labels.
 
+mod groups;
+
+use groups::weights_by_division;
 use separate::calendar::labels;
 use separate::decompose::{decompose_fitting, Tables};
 use separate::extremes::{neighbours, replaced_run, replacement, Extremes, RunValue};
@@ -138,13 +141,13 @@ fn five_years_of_si1_share_one_group() {
         let tables = decompose_fitting(&case.figures, 7).unwrap();
         let sizes: Vec<u64> = tables.b4.irregular.values.iter().map(|&grains| units(grains).unsigned_abs()).collect();
         assert_eq!(sizes.len(), 60);
-        let (_, second) = two_spreads(&sizes).unwrap();
+        let (_, second) = two_spreads(&sizes);
         let expected: Vec<u16> = sizes.iter().map(|&size| weight(size, second)).collect();
         assert_eq!(tables.b4.weights, expected, "{}", case.name);
         // With the years of the whole series the groups would be of 48 months, or 60 in the middle.
         let mut whole = vec![0; 72];
         whole[6..66].copy_from_slice(&tables.b4.irregular.values);
-        otherwise += usize::from(weights(&whole, &labels(7, 72)).unwrap()[6..66] != expected);
+        otherwise += usize::from(weights(&whole, &labels(7, 72))[6..66] != expected);
     }
     assert!(otherwise > 5);
 }
@@ -188,22 +191,6 @@ fn walked(t: usize, first: usize, last: usize, full: impl Fn(usize) -> bool, fou
     };
     months.sort();
     months
-}
-
-/// The weights with years by division, over a table's own months.
-fn weights_by_division(irregular: &Placed, start: u8) -> Vec<u16> {
-    let year_of = |t: usize| (usize::from(start) - 1 + t) / 12;
-    let (first_year, last_year) = (year_of(irregular.first), year_of(irregular.last()));
-    let size = |t: usize| units(irregular.at(t)).unsigned_abs();
-    let months = irregular.first..=irregular.last();
-    let mut list = Vec::new();
-    for year in first_year..=last_year {
-        let centre = year.clamp(first_year + 2, last_year - 2);
-        let group: Vec<u64> = months.clone().filter(|&t| year_of(t).abs_diff(centre) <= 2).map(size).collect();
-        let (_, second) = two_spreads(&group).unwrap();
-        list.extend(months.clone().filter(|&t| year_of(t) == year).map(|t| weight(size(t), second)));
-    }
-    list
 }
 
 /// Whether a fraction is rounded to this grain: none lies nearer, and of two that lie as near it is the even one.
@@ -371,7 +358,7 @@ fn corrected_without_replacing(figures: &[i32], start: u8) -> (Vec<i64>, Seasona
     for _ in 0..2 {
         let steps = pass(&x);
         let irregular: Vec<i64> = (0..b1.len()).map(|t| b1[t] - steps.s2.at(t) - steps.t2.at(t)).collect();
-        let weights = weights(&irregular, &labels).unwrap();
+        let weights = weights(&irregular, &labels);
         x = (0..b1.len()).map(|t| b1[t] - correction(irregular[t], weights[t])).collect();
         filter = chosen(&questions(&irregular, &steps.s2.values));
     }

@@ -127,7 +127,7 @@ impl Working {
     fn replaced(&mut self, name: &str, si: &Placed, filter: SeasonalFilter, labels: &[Label]) -> Placed {
         let irregular = si.less(&self.seasonal(name, "", si, filter));
         let labels = labels_of_part(labels, si.first, si.last());
-        let weights = weights(&irregular.values, &labels).expect("an allowed series");
+        let weights = weights(&irregular.values, &labels);
         let mut means = Fractions { first: si.first, values: vec![(0, 1); labels.len()] };
         for month in 1..=12 {
             let places = run(&labels, month, 0, labels.len() - 1);
@@ -165,7 +165,7 @@ impl Working {
     /// B1 less the corrections that follow from T2 and S2.
     fn corrected(&mut self, name: &str, b1: &[i64], (t2, s2): (Vec<i64>, Vec<i64>), labels: &[Label]) -> Vec<i64> {
         let irregular = less(&less(b1, &s2), &t2);
-        let weights = weights(&irregular, labels).expect("an allowed series");
+        let weights = weights(&irregular, labels);
         let share = |(&grains, &weight): (&i64, &u16)| (i128::from(grains) * (1000 - i128::from(weight)), 1000);
         let exact = Fractions { first: 0, values: irregular.iter().zip(&weights).map(share).collect() };
         less(b1, &self.grains(name.to_string(), &exact).values)

@@ -9,7 +9,7 @@ use proved::beside;
 use separate::decompose::{scratch_for, Lent};
 use separate::desk::bytes_of;
 
-// The order of the checks. Row 6 never applies.
+// The order of the checks.
 const DECOMPOSING: [u8; 5] = [1, 2, 3, 4, 5];
 const READING: [u8; 9] = [7, 1, 2, 3, 8, 9, 4, 5, 10];
 const WRITING: [u8; 6] = [1, 2, 3, 4, 5, 10];

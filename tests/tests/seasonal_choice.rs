@@ -605,7 +605,7 @@ fn missing_weights_stay_on_their_side(before: usize, after: usize) -> SeasonalRo
 fn filter_in_pass_c_too(case: &Case, tables: &Tables) -> Parts {
     let c = pass_with(&tables.c1, tables.seasonal_filter);
     let c13 = less(&less(&tables.b1, &c.s2.values), &c.t2.values);
-    let c17 = weights(&c13, &labels(case.start, c13.len())).expect("weights");
+    let c17 = weights(&c13, &labels(case.start, c13.len()));
     let d1: Vec<i64> = (0..c13.len()).map(|t| tables.b1[t] - correction(c13[t], c17[t])).collect();
     let d10 = pass_with(&d1, tables.seasonal_filter).s2.values;
     let d12 = henderson(&less(&d1, &d10), tables.trend_terms).rounded().values;

@@ -1,7 +1,11 @@
 //! The proved functions, called through the C interface. Slices pass as pointer and length.
 
+mod answer;
 pub mod beside;
 
+pub use answer::Answer;
+
+use answer::answer;
 use separate::decompose::MOST_MONTHS;
 
 extern "C" {
@@ -36,9 +40,6 @@ pub struct Slices {
     pub guarded: Vec<i64>,
 }
 
-/// Number (0 for success) and place.
-pub type Answer = (u8, usize);
-
 pub fn decompose(figures: &[i32], start: u8, lent: &mut Slices) -> Answer {
     let mut place = usize::MAX;
     let end = lent.guarded.len() - GUARD;
@@ -53,7 +54,7 @@ pub fn decompose(figures: &[i32], start: u8, lent: &mut Slices) -> Answer {
             scratch.as_mut_ptr(), scratch.len(), &mut place,
         )
     };
-    (number, place)
+    answer(number, place)
 }
 
 /// Answer, count and start month.
@@ -65,7 +66,7 @@ pub fn read(file: &[u8], figures: &mut [i32], weights: &mut [u16]) -> (Answer, u
             &mut count, &mut start, &mut place,
         )
     };
-    ((number, place), count, start)
+    (answer(number, place), count, start)
 }
 
 /// Answer and length.
@@ -77,5 +78,5 @@ pub fn write(figures: &[i32], start: u8, weights: &[u16], out: &mut [u8]) -> (An
             &mut size, &mut place,
         )
     };
-    ((number, place), size)
+    (answer(number, place), size)
 }

@@ -1,7 +1,13 @@
 //! The proved functions for the desk file by calendar month, called through the C interface. Slices pass as pointer and length. Only the
 //! tests of that file take this module: the others link without these functions.
 
+#[path = "../answer.rs"]
+mod answer;
 pub mod beside;
+
+pub use answer::Answer;
+
+use answer::answer;
 
 extern "C" {
     fn vepsjalm_read_columns(
@@ -20,9 +26,6 @@ extern "C" {
     ) -> u8;
 }
 
-/// Number (0 for success) and place.
-pub type Answer = (u8, usize);
-
 /// Answer, count, start month and first year.
 pub fn read(file: &[u8], figures: &mut [i32], weights: &mut [u16]) -> (Answer, usize, u8, u16) {
     let (mut count, mut start, mut first_year, mut place) = (usize::MAX, u8::MAX, u16::MAX, usize::MAX);
@@ -33,7 +36,7 @@ pub fn read(file: &[u8], figures: &mut [i32], weights: &mut [u16]) -> (Answer, u
             &mut count, &mut start, &mut first_year, &mut place,
         )
     };
-    ((number, place), count, start, first_year)
+    (answer(number, place), count, start, first_year)
 }
 
 /// Answer and length.
@@ -45,7 +48,7 @@ pub fn write(figures: &[i32], start: u8, first_year: u16, weights: &[u16], out: 
             &mut size, &mut place,
         )
     };
-    ((number, place), size)
+    (answer(number, place), size)
 }
 
 /// Answer and length.
@@ -54,7 +57,7 @@ pub fn forward(old: &[u8], first_year: u16, out: &mut [u8]) -> (Answer, usize) {
     let number = unsafe {
         vepsjalm_to_columns(old.as_ptr(), old.len(), first_year, out.as_mut_ptr(), out.len(), &mut size, &mut place)
     };
-    ((number, place), size)
+    (answer(number, place), size)
 }
 
 /// Answer, length and first year.
@@ -63,5 +66,5 @@ pub fn back(new: &[u8], out: &mut [u8]) -> (Answer, usize, u16) {
     let number = unsafe {
         vepsjalm_from_columns(new.as_ptr(), new.len(), out.as_mut_ptr(), out.len(), &mut size, &mut first_year, &mut place)
     };
-    ((number, place), size, first_year)
+    (answer(number, place), size, first_year)
 }

@@ -1,16 +1,19 @@
 //! The proved function for the members' sheet, called through the C interface. Slices pass as pointer and length. Only the tests of that
 //! sheet take this module: the others link without this function.
 
+#[path = "../answer.rs"]
+mod answer;
 pub mod beside;
+
+pub use answer::Answer;
+
+use answer::answer;
 
 extern "C" {
     fn vepsjalm_read_sheet(
         sheet: *const u8, n: usize, figures: *mut i32, nf: usize, count: *mut usize, start: *mut u8, revision: *mut f64, place: *mut usize,
     ) -> u8;
 }
-
-/// Number (0 for success) and place.
-pub type Answer = (u8, usize);
 
 /// Answer, count, start month and the bits of the total revision.
 pub fn read(sheet: &[u8], figures: &mut [i32]) -> (Answer, usize, u8, u64) {
@@ -21,5 +24,5 @@ pub fn read(sheet: &[u8], figures: &mut [i32]) -> (Answer, usize, u8, u64) {
             sheet.as_ptr(), sheet.len(), figures.as_mut_ptr(), figures.len(), &mut count, &mut start, &mut revision, &mut place,
         )
     };
-    ((number, place), count, start, revision.to_bits())
+    (answer(number, place), count, start, revision.to_bits())
 }
