@@ -256,8 +256,8 @@ fn less_level(r: &[i64], m: &[i64], out: &mut [i64]) {
     minus(&r[6..n - 6], m, &mut out[6..n - 6]);
 }
 
-/// The spread of months of these sizes, but for those with twice their size above the limit.
-fn second_spread(sizes: &[u64], limit: u64) -> Option<u64> {
+/// The spread of months of these sizes, but for those with twice their size above the limit. Some month is not.
+fn second_spread(sizes: &[u64], limit: u64) -> u64 {
     let (mut sum, mut count) = (0, 0);
     for &a in sizes {
         if 2 * a <= limit {
@@ -265,7 +265,7 @@ fn second_spread(sizes: &[u64], limit: u64) -> Option<u64> {
             count += 1;
         }
     }
-    (count > 0).then(|| (sum / count).isqrt())
+    (sum / count).isqrt()
 }
 
 fn weight(spread: u64, a: u64) -> u16 {
@@ -281,8 +281,8 @@ fn weight(spread: u64, a: u64) -> u16 {
     (2500 - (2000 * a + spread) / (2 * spread)) as u16
 }
 
-/// The weights of an irregular. False where dropping leaves a group empty.
-fn weigh(irregular: &[i64], start: u8, weights: &mut [u16]) -> bool {
+/// The weights of an irregular.
+fn weigh(irregular: &[i64], start: u8, weights: &mut [u16]) {
     let n = irregular.len();
     let before = start as usize - 1;
     let years = (before + n - 1) / 12 + 1;
@@ -297,16 +297,13 @@ fn weigh(irregular: &[i64], start: u8, weights: &mut [u16]) -> bool {
     for centre in 2..years - 2 {
         let group = &sizes[first(centre - 2)..first(centre + 3)];
         let sum: u64 = squares[centre - 2..centre + 3].iter().sum();
-        let Some(spread) = second_spread(group, 5 * (sum / group.len() as u64).isqrt()) else {
-            return false;
-        };
+        let spread = second_spread(group, 5 * (sum / group.len() as u64).isqrt());
         let lo = if centre == 2 { 0 } else { first(centre) };
         let hi = if centre == years - 3 { n } else { first(centre + 1) };
         for (weight_of, &a) in weights[lo..hi].iter_mut().zip(&sizes[lo..hi]) {
             *weight_of = weight(spread, a);
         }
     }
-    true
 }
 
 /// Replaces the values of low weight by means over their month's run. The neighbours of a value stand side by side in the list of the run's
@@ -356,19 +353,16 @@ fn seasonal(filter: impl Fn(&[i64], &mut [i64]), si: &[i64], r: &mut [i64], m: &
     less_level(r, m, s);
 }
 
-/// Replaces the extreme values of si, as the weights of what the seasonal s leaves of it tell. False where dropping leaves a group empty.
-fn replace_extremes(si: &mut [i64], s: &[i64], start: u8, left: &mut [i64], weights: &mut [u16]) -> bool {
+/// Replaces the extreme values of si, as the weights of what the seasonal s leaves of it tell.
+fn replace_extremes(si: &mut [i64], s: &[i64], start: u8, left: &mut [i64], weights: &mut [u16]) {
     minus(si, s, left);
-    let done = weigh(left, start, weights);
-    if done {
-        replace(si, weights);
-    }
-    done
+    weigh(left, start, weights);
+    replace(si, weights);
 }
 
 /// Steps 1 to 7, with the filter of a span in step 6: T2 in t and S2 in s; si, r and m are work space. Extreme values are replaced where a start
 /// month is given with room for weights.
-fn pass(x: &[i64], span: usize, [si, r, m, t, s]: [&mut [i64]; 5], mut extremes: Option<(u8, &mut [u16])>) -> bool {
+fn pass(x: &[i64], span: usize, [si, r, m, t, s]: [&mut [i64]; 5], mut extremes: Option<(u8, &mut [u16])>) {
     let n = x.len();
     let e = n - 12;
     {
@@ -377,9 +371,7 @@ fn pass(x: &[i64], span: usize, [si, r, m, t, s]: [&mut [i64]; 5], mut extremes:
         minus(&x[6..n - 6], r, si);
         seasonal(three_by_three, si, r, m, s);
         if let Some((start, weights)) = &mut extremes {
-            if !replace_extremes(si, s, (*start + 5) % 12 + 1, &mut r[..e], &mut weights[..e]) {
-                return false;
-            }
+            replace_extremes(si, s, (*start + 5) % 12 + 1, &mut r[..e], &mut weights[..e]);
             seasonal(three_by_three, si, r, m, s);
         }
     }
@@ -390,26 +382,20 @@ fn pass(x: &[i64], span: usize, [si, r, m, t, s]: [&mut [i64]; 5], mut extremes:
     minus(x, t, si);
     seasonal(|si, r| three_by(span, si, r), si, r, m, s);
     if let Some((start, weights)) = extremes {
-        if !replace_extremes(si, s, start, r, weights) {
-            return false;
-        }
+        replace_extremes(si, s, start, r, weights);
         seasonal(|si, r| three_by(span, si, r), si, r, m, s);
     }
-    true
 }
 
 /// B1 less the corrections in x, from the irregular that T2 in t and S2 in s leave, which is worked in r; and its weights.
-fn revise(figures: &[i32], start: u8, x: &mut [i64], [r, t, s]: [&mut [i64]; 3], weights: &mut [u16]) -> bool {
+fn revise(figures: &[i32], start: u8, x: &mut [i64], [r, t, s]: [&mut [i64]; 3], weights: &mut [u16]) {
     for (((r, &figure), t), s) in r.iter_mut().zip(figures).zip(&*t).zip(&*s) {
         *r = UNIT * figure as i64 - s - t;
     }
-    if !weigh(r, start, weights) {
-        return false;
-    }
+    weigh(r, start, weights);
     for (((x, &figure), &irregular), &weight) in x.iter_mut().zip(figures).zip(&*r).zip(&*weights) {
         *x = UNIT * figure as i64 - nearest::<1000>(irregular * (FULL_WEIGHT - weight) as i64);
     }
-    true
 }
 
 /// What was chosen on the way. All of it is 0 after a refusal.
@@ -445,24 +431,20 @@ pub fn decompose_told(figures: &[i32], start: u8, lent: &mut Lent) -> (Answer, T
     for (x, &figure) in x.iter_mut().zip(figures) {
         *x = UNIT * figure as i64;
     }
-    let mut told = ((6, 0), Told::default());
-    if pass(x, 5, [si, d11, d13, d12, d10], Some((start, b17)))
-        && revise(figures, start, x, [d11, d12, d10], b17)
-        && pass(x, 5, [si, d11, d13, d12, d10], None)
-        && revise(figures, start, x, [d11, d12, d10], c17)
-    {
-        // C13, C7 and C10 stand in d11, d12 and d10.
-        let (i, c) = (changes(d11), changes(d12));
-        let seasonal = choose_span(d11, d10);
-        pass(x, seasonal.0, [si, d11, d13, d12, d10], None);
-        minus(x, d10, d11);
-        henderson(terms(i, c), d11, d12);
-        for (((d11, d13), &figure), (d10, d12)) in d11.iter_mut().zip(d13).zip(figures).zip(d10.iter().zip(&*d12)) {
-            *d11 = UNIT * figure as i64 - d10;
-            *d13 = *d11 - d12;
-        }
-        told = ((0, 0), Told { trend: [i, c], seasonal });
+    pass(x, 5, [si, d11, d13, d12, d10], Some((start, b17)));
+    revise(figures, start, x, [d11, d12, d10], b17);
+    pass(x, 5, [si, d11, d13, d12, d10], None);
+    revise(figures, start, x, [d11, d12, d10], c17);
+    // C13, C7 and C10 stand in d11, d12 and d10.
+    let trend = [changes(d11), changes(d12)];
+    let seasonal = choose_span(d11, d10);
+    pass(x, seasonal.0, [si, d11, d13, d12, d10], None);
+    minus(x, d10, d11);
+    henderson(terms(trend[0], trend[1]), d11, d12);
+    for (((d11, d13), &figure), (d10, d12)) in d11.iter_mut().zip(d13).zip(figures).zip(d10.iter().zip(&*d12)) {
+        *d11 = UNIT * figure as i64 - d10;
+        *d13 = *d11 - d12;
     }
     scratch[..scratch_for(n)].fill(0);
-    told
+    (answer, Told { trend, seasonal })
 }
