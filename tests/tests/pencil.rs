@@ -144,6 +144,23 @@ fn group_of_three_zeros_and_a_one() {
     assert_eq!(list, vec![1000, 1000, 1000, 0]);
 }
 
+/// First spread, months kept and second spread, by hand: 25 and 7 over 8 is 4,
+/// and twice 5 is not above 10; 36 and 7 over 8 is 5, and twice 6 is; 12 over
+/// 4 is 3, then 3 over 3; 11 over 4 is 2, then 2 over 3.
+#[test]
+fn groups_with_a_month_at_or_above_the_limit() {
+    let one_and_ones = |size: u64| [vec![size], vec![1; 7]].concat();
+    for (group, first, kept, second) in [
+        (one_and_ones(5), 2, 8, 2),
+        (one_and_ones(6), 2, 7, 1),
+        (vec![1, 1, 1, 3], 1, 3, 1),
+        (vec![0, 1, 1, 3], 1, 3, 0),
+    ] {
+        assert_eq!(two_spreads(&group), (first, second), "{group:?}");
+        assert_eq!(group.iter().filter(|&&size| 2 * size <= 5 * first).count(), kept, "{group:?}");
+    }
+}
+
 #[test]
 fn seventy_two_and_six_hundred_months() {
     assert!(decompose_fitting(&[7; 72], 1).is_ok());

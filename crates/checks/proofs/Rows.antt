@@ -18,7 +18,7 @@ use Rattle.refusals.proofs.InsideLaws.{start-inside, figure-inside}
 use Rattle.refusals.specs.First.{firstOutside}
 use Rattle.refusals.specs.Sheet.{success, refusalOf}
 use Rattle.refusals.proofs.FirstLaws.{NoneBefore, all-passed}
-use Rattle.refusals.specs.Contracts.{Before, Stopped, spanChecks, SpanFits, Spans}
+use Rattle.refusals.specs.Contracts.{Before, Stopped, SpanFits, Spans}
 use Rattle.refusals.proofs.CheckLaws.{one-more, row-applies, each-applies, each-passed, stopped-more, stopped, none-applies, span-passed}
 use Rattle.refusals.specs.declared.Refusal.{Refusal}
 use Rattle.refusals.specs.declared.Verdict.{Verdict}

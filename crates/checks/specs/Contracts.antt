@@ -22,12 +22,13 @@ pub record Fits (n : ℕ) (l : Lengths) : Type 0 where
   pub c17-long : l .c17 ≡ n
   pub scratch-long : scratchFor n ≤ l .scratch
 
--- none of the rows applies; or the first that does is q's
+-- no row applies, and what follows from it
 pub record Accepts (start : ℕ) (f : List ℤ) (lent : Lengths) : Type 0 where
   pub workable : Workable start f
   pub fits : Fits (length f) lent
   pub answer-is : answerFor start f lent ≡ success tt
 
+-- no row applies, or the first that does is q's
 abbrev pub Checked : Verdict → ℕ → List ℤ → Lengths → Type 0
 Checked Fine start f lent = Accepts start f lent
 Checked (Refused q) start f lent = answerFor start f lent ≡ refusalOf q

@@ -1,9 +1,14 @@
--- METHOD 8.1, 8.3 and 8.4, the examples: lengths that row 4 lets pass (true) and refuses (false).
+-- METHOD 8.1, 8.3 and 8.4, the examples of decomposing: rows 1 to 5, and lengths that row 4 lets pass (true) and refuses (false).
 use mathlib.Core.Path.{_≡_}
-use mathlib.Core.Bool.{true, false}
+use mathlib.Core.Bool.{true, false, cond}
 use Prim.Native.Nat.{ℕ}
+use lib.Dec.{eqb}
+use lib.IntN.{ℤ, pos, negℤ}
+use Rattle.integers.specs.Lists.{tab}
+use Rattle.refusals.specs.Sheet.{Answer, success, refusal}
+use Rattle.scratch.specs.Scratch.{scratchFor}
 use Rattle.checks.specs.declared.Lengths.{Lengths}
-use Rattle.checks.specs.Answer.{fitting}
+use Rattle.checks.specs.Answer.{fitting, answerFor}
 
 -- METHOD 8.3: how long the slices are: D10 and the scratch as given, the others n
 abbrev pub lengthsWith : ℕ → ℕ → ℕ → Lengths
@@ -19,3 +24,22 @@ pub record RowFour : Type 0 where
   pub too-few-600 : fitting 600 (lengthsWith 600 600 2999) ≡ false
   pub short-table : fitting 72 (lengthsWith 72 71 360) ≡ false
   pub long-table : fitting 72 (lengthsWith 72 73 360) ≡ false
+
+-- METHOD 8.1: n figures of 100 from a start month, the slices having their lengths, or D10 another; the figure at one month being another
+abbrev pub answerWith : ℕ → ℕ → ℕ → ℕ → ℤ → Answer Unit
+answerWith n start d10 t figure = answerFor start (tab n (λ k. cond (eqb k t) figure (pos 100))) (lengthsWith n d10 (scratchFor n))
+
+-- METHOD 8.1: 71 and 601 figures, start month 13, D10 of 71 entries, 200,001 at t = 0; -200,001 at t = 44; and where several rows apply, the first.
+-- 72 and 600 figures, from month 12 too, with -200,000 among them, are worked
+pub record FirstRows : Type 0 where
+  pub too-few : answerWith 71 1 71 0 (pos 100) ≡ refusal 1 0
+  pub too-many : answerWith 601 1 601 0 (pos 100) ≡ refusal 2 0
+  pub month-13 : answerWith 72 13 72 0 (pos 100) ≡ refusal 3 0
+  pub d10-of-71 : answerWith 72 1 71 0 (pos 100) ≡ refusal 4 0
+  pub figure-at-0 : answerWith 72 1 72 0 (pos 200_001) ≡ refusal 5 0
+  pub figure-at-44 : answerWith 72 1 72 44 (negℤ (pos 200_001)) ≡ refusal 5 44
+  pub one-first : answerWith 71 13 72 0 (pos 200_001) ≡ refusal 1 0
+  pub three-before-four : answerWith 72 13 71 0 (pos 200_001) ≡ refusal 3 0
+  pub four-before-five : answerWith 72 1 71 0 (pos 200_001) ≡ refusal 4 0
+  pub fewest : answerWith 72 1 72 5 (negℤ (pos 200_000)) ≡ success tt
+  pub most : answerWith 600 12 600 599 (pos 200_000) ≡ success tt

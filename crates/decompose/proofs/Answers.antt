@@ -9,7 +9,7 @@ use Rattle.refusals.proofs.CheckLaws.{no-success}
 use Rattle.tables.proofs.Nearness.{passes-near, near-at}
 use Rattle.checks.specs.Answer.{answerFor}
 use Rattle.checks.specs.Contracts.{Accepts}
-use Rattle.decompose.specs.Promise.{Slices, lengthsOf, answer, after, Promise}
+use Rattle.decompose.specs.Promise.{Slices, lengthsOf, answer, after, Promise, RefusalTouchesNothing}
 use Rattle.three_passes.specs.Contracts.{PassesDone}
 use Rattle.decompose.specs.declared.Decomposed.the-variants.{Tables, Refused}
 
@@ -22,6 +22,11 @@ refused {start} {f} {lent} q h = record {
   near = λ e. absurd (no-success e);
   passes = passes-near start f;
 }
+
+-- whatever keeps the promise leaves every slice as it was
+pub refusal-touches-nothing : RefusalTouchesNothing
+unfolding after
+refusal-touches-nothing start f lent left q p = p .slices ∙ rw (← (p .answered))
 
 -- ---- the tables
 unfoldable made : List ℤ → List ℤ → List ℤ → List ℤ → List ℕ → List ℕ → List ℤ → Slices

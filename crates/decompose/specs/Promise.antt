@@ -4,6 +4,7 @@ use mathlib.Core.List.{List}
 use Prim.Native.Nat.{ℕ, _<_}
 use lib.ListN.{length}
 use lib.IntN.{ℤ}
+use Rattle.refusals.specs.declared.Refusal.{Refusal}
 use Rattle.refusals.specs.Sheet.{Answer, success, refusal, refusalOf}
 use Rattle.tables.specs.Tables.{B1, B17, C17, D1, finalSeasonalFilter, D10, D11, finalTerms, D12, D13}
 use Rattle.tables.specs.Nearness.{PassesNear, NearAt}
@@ -69,3 +70,7 @@ pub record Promise (start : ℕ) (figures : List ℤ) (lent : Slices) (r : Decom
       → NearAt (finalSeasonalFilter start figures) (finalTerms start figures) (B1 start figures) (D1 start figures) (left .d10) (left .d11) (left .d12) (left .d13) t
   -- METHOD 6.3, of each pass on its X: facts of the rules, which hold of any figures, whatever the program leaves
   pub passes : PassesNear start figures
+
+-- METHOD 8.4, which follows: a refusal, whichever it is, leaves every slice as it was lent (shown in proofs/Answers.antt)
+abbrev pub RefusalTouchesNothing : Type 0
+RefusalTouchesNothing = (start : ℕ) (figures : List ℤ) (lent left : Slices) (q : Refusal) → Promise start figures lent (Refused q) left → left ≡ lent

@@ -31,7 +31,7 @@ same-years {start} {period} h l = record {
 -- 114 months from start month 10, by computation
 pub begun-years : BegunYears
 unfolding tabFrom tab yearOf years yearStart months groupAround centre group
-begun-years = record { eleven = refl; first = refl; second = refl; last-but-one = refl; last = refl }
+begun-years = record { eleven = refl; first-months = refl; lengths = refl }
 
 -- SI1 of 72 months
 pub fewest-years : FewestYears

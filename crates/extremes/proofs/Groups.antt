@@ -1,5 +1,5 @@
 -- The months of a group, its spreads, and the weights of the months that it serves.
-use Prim.Native.Nat.{ℕ, _+_, _*_, _-_, _≤_, _<_}
+use Prim.Native.Nat.{ℕ, _+_, _-_, _≤_, _<_}
 use mathlib.Core.Path.{_≡_, sym, ap, _∙_}
 use mathlib.Core.List.{List}
 use native.Mathlib.Omega.{arith}
@@ -16,7 +16,7 @@ use Rattle.extremes.proofs.HeldSizes.{length-sizes, sizes-below}
 use Rattle.extremes.proofs.YearLaws.{centre-own, group-range, served-order, served-by}
 use Rattle.extremes.proofs.SpreadLaws.{months-below, spread-most, kept-most}
 use Rattle.extremes.proofs.GroupMonths.{group-at, group-some}
-use Rattle.extremes.proofs.NoGroupEmptied.{months-stay}
+use Rattle.extremes.proofs.NoGroupEmptied.{smallest-stays}
 
 -- ---- the group of a year, in a list of n sizes
 module _ (l : List ℕ) {start period n : ℕ} (e : length l ≡ n) (s : Calendar start period n) where
@@ -58,7 +58,7 @@ group-found {work} {running} {start} {period} {c} {lo} {hi} s i j u v = record {
   order = ends .0;
   inside = omega (arith, ends, length-sizes work);
   first-most = spread-most largestSize _ (months-below lo hi (sizes-below (s .sizes .small)));
-  stays = rw same (months-stay _ (group-some (sizesIn work) start period (length-sizes work) (s .calendar .early) (s .calendar .late) (s .calendar .least) c) .some);
+  stays = rw same (smallest-stays _ (group-some (sizesIn work) start period (length-sizes work) (s .calendar .early) (s .calendar .late) (s .calendar .least) c) .some);
   second = ap secondSpread same;
 }
   where

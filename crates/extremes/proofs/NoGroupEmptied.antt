@@ -8,12 +8,12 @@ use native.Mathlib.Decide.{decLe}
 use native.Mathlib.Omega.{arith}
 use lib.Dec.{ltb}
 use lib.ListN.{length, getD}
-use borrow.Author.Tests.{ltb-true}
+use borrow.Author.Tests.{le-ltb}
 use Rattle.integers.specs.Lists.{tabFrom, tab}
 use Rattle.integers.specs.Root.{oneMore, rootIn, root}
 use Rattle.integers.proofs.RootLaws.{root-is}
 use Rattle.extremes.specs.Spreads.{sizesOf, squares, spread, keep, limitOf, remaining}
-use Rattle.extremes.specs.NoGroupEmptied.{Smallest, MonthsStay, NoGroupEmptied, EqualMonths}
+use Rattle.extremes.specs.NoGroupEmptied.{Among, Smallest, SmallestStays, NoGroupEmptied, GroupsThatStay}
 use Rattle.extremes.proofs.HeldSizes.{length-sizesOf}
 use Rattle.extremes.proofs.GroupMonths.{group-some}
 
@@ -31,48 +31,77 @@ not-all-above g l h =
     let q : (spread g + 1) * (spread g + 1) ≤ squares g / length g = le-div-iff-mul-le l .1 (omega (arith, squares-least (spread g + 1) g h)) in
     omega (arith, root-is (squares g / length g) .greatest (spread g + 1) q)
 
--- were every month dropped, twice each size would be above the limit
-each-dropped : (limit : ℕ) (g : List ℕ) → length (keep limit g) ≡ 0 → (t : ℕ) → t < length g → limit < 2 * getD g t 0
-unfolding keep
-each-dropped limit [] e t l = absurd (omega arith)
-each-dropped limit (a ∷ g) e t l = go (each-dropped limit g) (ltb limit (2 * a)) refl e t l
+-- ---- among the sizes: the first, or one of the others
+among-first : (a : ℕ) (g : List ℕ) → Among a (a ∷ g)
+among-first a g = record { place = 0; inside = omega arith; there = refl }
+
+among-later : {a b : ℕ} {g : List ℕ} → Among a g → Among a (b ∷ g)
+among-later k = record { place = suc (k .place); inside = omega (arith, k .inside); there = k .there }
+
+-- ---- a group that has months has a smallest size
+record HasSmallest (g : List ℕ) : Type 0 where
+  size : ℕ
+  smallest : Smallest size g
+
+has-this : {s : ℕ} (a : ℕ) (g : List ℕ) → Among s (a ∷ g) → s ≤ a → ((i : ℕ) → i < length g → s ≤ getD g i 0) → HasSmallest (a ∷ g)
+has-this {s} a g k h l = record { size = s; smallest = record { among = k; least = each } }
   where
-    go : (length (keep limit g) ≡ 0 → (t : ℕ) → t < length g → limit < 2 * getD g t 0) → (b : Bool) → ltb limit (2 * a) ≡ b
-        → length (cond b (keep limit g) (a ∷ keep limit g)) ≡ 0 → (t : ℕ) → t < suc (length g) → limit < 2 * getD (a ∷ g) t 0
-    go next true i k zero m = ltb-true limit (2 * a) i
-    go next true i k (suc t) m = next k t (omega arith)
-    go next false i k t m = absurd (omega arith)
+    each : (i : ℕ) → i < suc (length g) → s ≤ getD (a ∷ g) i 0
+    each zero m = h
+    each (suc i) m = l i (omega arith)
 
-module _ (g : List ℕ) (h : 0 < length g) where
-  smallest-low : (k : ℕ) → Smallest g k → getD g k 0 ≤ spread g
-  smallest-low k s = go (decLe (getD g k 0) (spread g))
+one-more : (a : ℕ) (g : List ℕ) (r : HasSmallest g) → Dec (a ≤ r .size) → HasSmallest (a ∷ g)
+one-more a g r (yes h) = has-this a g (among-first a g) (omega arith) (λ i l. omega (arith, r .smallest .least i l))
+one-more a g r (no h) = has-this a g (among-later (r .smallest .among)) (omega arith) (r .smallest .least)
+
+has-smallest : (a : ℕ) (g : List ℕ) → HasSmallest (a ∷ g)
+has-smallest a [] = has-this a [] (among-first a []) (omega arith) (λ i l. absurd (omega arith))
+has-smallest a (b ∷ g) = let r = has-smallest b g in one-more a (b ∷ g) r (decLe a (r .size))
+
+-- ---- a size whose double does not exceed the limit is among those that stay
+kept-at : (limit : ℕ) (g : List ℕ) (i : ℕ) → i < length g → 2 * getD g i 0 ≤ limit → Among (getD g i 0) (keep limit g)
+unfolding keep
+kept-at limit [] i h l = absurd (omega arith)
+kept-at limit (a ∷ g) zero h l = rw (le-ltb limit (2 * a) l) (among-first a (keep limit g))
+kept-at limit (a ∷ g) (suc i) h l = go (ltb limit (2 * a)) (kept-at limit g i (omega arith) l)
+  where
+    go : (b : Bool) → Among (getD g i 0) (keep limit g) → Among (getD g i 0) (cond b (keep limit g) (a ∷ keep limit g))
+    go true k = k
+    go false k = among-later k
+
+kept-among : {limit a : ℕ} {g : List ℕ} → Among a g → 2 * a ≤ limit → Among a (keep limit g)
+kept-among {limit} {a} {g} k l = rw (k .there) at (kept-at limit g (k .place) (k .inside) (omega (arith, k .there)))
+
+-- ---- the smallest
+module _ (g : List ℕ) (h : 0 < length g) (r : HasSmallest g) where
+  low : r .size ≤ spread g
+  low = go (decLe (r .size) (spread g))
     where
-      go : Dec (getD g k 0 ≤ spread g) → getD g k 0 ≤ spread g
+      go : Dec (r .size ≤ spread g) → r .size ≤ spread g
       go (yes l) = l
-      go (no l) = absurd (not-all-above g h (λ t m. omega (arith, s .least t m)))
+      go (no l) = absurd (not-all-above g h (λ i m. omega (arith, r .smallest .least i m)))
 
-  -- a month is dropped only if its size is above the first spread
-  dropped-above : (a : ℕ) → limitOf g < 2 * a → spread g + 1 ≤ a
+  -- its double does not exceed five times the first spread
+  low-stays : 2 * r .size ≤ limitOf g
   unfolding limitOf
-  dropped-above a l = omega arith
+  low-stays = omega (arith, low)
 
-  some-stay : 0 < length (remaining g)
+  stays : Among (r .size) (remaining g)
   unfolding remaining
-  some-stay = go (decLe 1 (length (keep (limitOf g) g)))
-    where
-      go : Dec (0 < length (keep (limitOf g) g)) → 0 < length (keep (limitOf g) g)
-      go (yes l) = l
-      go (no l) = absurd (not-all-above g h (λ t m. dropped-above (getD g t 0) (each-dropped (limitOf g) g (omega arith) t m)))
+  stays = kept-among (r .smallest .among) low-stays
 
-  pub months-stay : MonthsStay g
-  unfolding limitOf
-  months-stay = record { low = smallest-low; stays = λ k s. omega (arith, smallest-low k s); some = some-stay }
+  all-said : SmallestStays g
+  all-said = record { size = r .size; smallest = r .smallest; low = low; stays = stays; some = omega (arith, stays .inside) }
+
+pub smallest-stays : (g : List ℕ) → 0 < length g → SmallestStays g
+smallest-stays [] h = absurd (omega arith)
+smallest-stays (a ∷ g) h = all-said (a ∷ g) h (has-smallest a g)
 
 pub no-group-emptied : NoGroupEmptied
 no-group-emptied start period x early late least =
-    record { each = λ y. months-stay _ (group-some (sizesOf x) start period (length-sizesOf x) early late least y) }
+    record { each = λ y. smallest-stays _ (group-some (sizesOf x) start period (length-sizesOf x) early late least y) }
 
--- sixty months of size 7, by computation
-pub equal-months : EqualMonths
+-- the examples, by computation
+pub groups-that-stay : GroupsThatStay
 unfolding tabFrom tab oneMore rootIn root squares spread keep limitOf remaining
-equal-months = record { first = refl; all-stay = refl }
+groups-that-stay = record { first-of-sevens = refl; sevens-stay = refl; first-of-ones = refl; one-stays = refl }

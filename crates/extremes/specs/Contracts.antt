@@ -20,7 +20,7 @@ abbrev pub largestSize : ℕ
 largestSize = 110_000_000
 
 -- ---- years
--- n months from a start month that have a year with two years before it and two after. Nothing more is asked of the period
+-- five times `period` months or more from a start month, so that a year has two years before it and two after. Nothing more is asked of the period
 pub record Calendar (start period n : ℕ) : Type 0 where
   pub least : 5 * period ≤ n
   pub most : n ≤ mostMonths

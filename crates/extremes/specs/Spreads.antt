@@ -35,6 +35,7 @@ keep limit (a ∷ g) = cond (ltb limit (2 * a)) (keep limit g) (a ∷ keep limit
 unfoldable pub limitOf : List ℕ → ℕ
 limitOf g = 5 * spread g
 
+-- METHOD 5.4: the sizes of the months that stay by that limit
 unfoldable pub remaining : List ℕ → List ℕ
 remaining g = keep (limitOf g) g
 

@@ -2,7 +2,7 @@
 use Prim.Native.Nat.{ℕ, _+_, _*_, _-_, _/_, _%_, min, max}
 use mathlib.Core.Path.{_≡_}
 use mathlib.Core.List.{List, [], _∷_}
-use lib.ListN.{length}
+use lib.ListN.{length, getD}
 use lib.Seq.{slice}
 use Rattle.integers.specs.Lists.{tab}
 use Rattle.refusals.specs.Limits.{monthsOfYear}
@@ -11,7 +11,7 @@ use Rattle.refusals.specs.Limits.{monthsOfYear}
 unfoldable pub months : ℕ → ℕ → List ℕ → List ℕ
 months lo hi sizes = slice lo hi sizes
 
--- METHOD 5.2: of so many years, the one whose group year y uses: its own, or that of year 2 for years 0 and 1, or that of the third year from the
+-- METHOD 5.2: of so many years, the middle one of the group that year y uses: year y itself, but year 2 for years 0 and 1, and the third year from the
 -- end for the last two
 unfoldable pub centre : ℕ → ℕ → ℕ
 centre count y = min (max y 2) (count - 3)
@@ -46,16 +46,14 @@ module _ (start period : ℕ) where
 pub record SameYears (start period : ℕ) : Type 0 where
   pub from : (k t : ℕ) → yearOf start period (k + t) ≡ yearOf start period k + yearOf (monthOf start period k) period t
 
--- METHOD 5.2: 114 months from start month 10 touch eleven years, and the groups that the first two and the last two years use have 51 months (shown
--- in proofs/GroupMonths.antt)
+-- METHOD 5.2: 114 months from start month 10 touch eleven years. Of the group that each of them uses: its first month t, and how many months it has
+-- (shown in proofs/GroupMonths.antt)
 pub record BegunYears : Type 0 where
   pub eleven : years 10 monthsOfYear 114 ≡ 11
-  pub first : length (group 10 monthsOfYear (tab 114 (λ t. t)) 0) ≡ 51
-  pub second : length (group 10 monthsOfYear (tab 114 (λ t. t)) 1) ≡ 51
-  pub last-but-one : length (group 10 monthsOfYear (tab 114 (λ t. t)) 9) ≡ 51
-  pub last : length (group 10 monthsOfYear (tab 114 (λ t. t)) 10) ≡ 51
+  pub first-months : tab 11 (λ y. getD (group 10 monthsOfYear (tab 114 (λ t. t)) y) 0 0) ≡ 0 ∷ 0 ∷ 0 ∷ 3 ∷ 15 ∷ 27 ∷ 39 ∷ 51 ∷ 63 ∷ 63 ∷ 63 ∷ []
+  pub lengths : tab 11 (λ y. length (group 10 monthsOfYear (tab 114 (λ t. t)) y)) ≡ 51 ∷ 51 ∷ 51 ∷ 60 ∷ 60 ∷ 60 ∷ 60 ∷ 60 ∷ 51 ∷ 51 ∷ 51 ∷ []
 
--- METHOD 3.8 and 5.2: SI1 of 72 months has 60. From start month 1 it begins in month 7 and touches six years; from start month 7 it begins in month
+-- METHOD 3.8 and 5.2: SI1 of 72 months has 60. From start month 1 it begins in month 7 and touches six years, which use groups of 54 months; from start month 7 it begins in month
 -- 1 and touches five, which all use one group of all months (shown in proofs/GroupMonths.antt)
 pub record FewestYears : Type 0 where
   pub from-january : monthOf 1 monthsOfYear 6 ≡ 7

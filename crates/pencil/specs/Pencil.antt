@@ -4,7 +4,7 @@ use mathlib.Core.Bool.{cond}
 use mathlib.Core.List.{List, [], _∷_, _++_, map}
 use Prim.Native.Nat.{ℕ, _+_, _*_, _-_, _%_}
 use lib.Dec.{ltb, eqb}
-use lib.ListN.{replicate}
+use lib.ListN.{length, replicate}
 use lib.IntN.{ℤ, pos, negsuc, negℤ}
 use Rattle.integers.specs.Lists.{_‼_, tab}
 use Rattle.integers.specs.Rounding.{toGrain}
@@ -18,7 +18,7 @@ use Rattle.trend_length.specs.TrendLength.{monthChanges, termsFor}
 use Rattle.seasonal_choice.specs.declared.Decision.{Decision}
 use Rattle.seasonal_choice.specs.declared.Decision.the-variants.{Decided, Undecided}
 use Rattle.seasonal_choice.specs.SeasonalChoice.{yearChanges, decide, chosenFilter}
-use Rattle.extremes.specs.Spreads.{sizeOf, spread, secondSpread}
+use Rattle.extremes.specs.Spreads.{sizeOf, spread, remaining, secondSpread}
 use Rattle.extremes.specs.Weighing.{weight, correctionOf}
 
 -- a case: what the rules find, and what is wanted
@@ -89,6 +89,10 @@ hendersonHalves c = at (filter (tableHenderson Thirteen) (one c 8_398)) (c ∷ (
 -- the sizes of the group that the list works
 abbrev exampleGroup : List ℕ
 exampleGroup = 0 ∷ 0 ∷ 0 ∷ 1 ∷ []
+
+-- METHOD 5.4: of a group, the first spread, how many months stay, and the second spread
+abbrev dropping : List ℕ → List ℕ
+dropping g = spread g ∷ length (remaining g) ∷ secondSpread g ∷ []
 
 -- METHOD 4.5 and 4.6: the squares of t, those of even t below zero, of n months; the number of terms for two sums
 abbrev squaresByTurns : ℕ → List ℤ
@@ -179,6 +183,11 @@ pencil =
     -- the group of sizes 0, 0, 0, 1: both spreads, and the weights of its months
     ∷ (whole (spread exampleGroup ∷ secondSpread exampleGroup ∷ []) gives whole (0 ∷ 0 ∷ []))
     ∷ (whole (map (weight (secondSpread exampleGroup)) exampleGroup) gives whole (1000 ∷ 1000 ∷ 1000 ∷ 0 ∷ []))
+    -- dropping in the groups of seven months of size 1 and one of 5, of seven of 1 and one of 6, of 1, 1, 1, 3 and of 0, 1, 1, 3
+    ∷ (whole (dropping (5 ∷ replicate 7 1)) gives whole (2 ∷ 8 ∷ 2 ∷ []))
+    ∷ (whole (dropping (6 ∷ replicate 7 1)) gives whole (2 ∷ 7 ∷ 1 ∷ []))
+    ∷ (whole (dropping (1 ∷ 1 ∷ 1 ∷ 3 ∷ [])) gives whole (1 ∷ 3 ∷ 1 ∷ []))
+    ∷ (whole (dropping (0 ∷ 1 ∷ 1 ∷ 3 ∷ [])) gives whole (1 ∷ 3 ∷ 0 ∷ []))
     -- the sum of the sizes of changes, of squares whose sign turns from month to month: 14, 15 and 16 months
     ∷ (whole (map (λ n. monthChanges 6 (squaresByTurns n)) (14 ∷ 15 ∷ 16 ∷ [])) gives whole (85 ∷ 198 ∷ 343 ∷ []))
     -- the terms for sums I and C of 0 and 0, 0 and 1, 99 and 100, 100 and 100, 349 and 100, 350 and 100, 1 and 0

@@ -1,4 +1,4 @@
--- METHOD 8.1 and 8.5: numbers that no row of the sheet has.
+-- METHOD 8.1 and 8.5: numbers that no refusal has.
 use Prim.Native.Nat.{ℕ}
 use mathlib.Core.Path.{_≡_, refl, sym, ap, _∙_}
 use mathlib.Core.Bool.{Bool, true, false, not, _||_}
@@ -6,7 +6,7 @@ use native.Mathlib.Omega.{arith}
 use lib.Dec.{eqb}
 use Rattle.refusals.specs.declared.Refusal.{Refusal}
 use Rattle.refusals.specs.declared.Refusal.the-variants.{TooShort, TooLong, BadStart, WrongLength, FigureOutside, NoHeader, BadPeriod, BadFileLength, WeightAbove, BadYears, MalformedCell, Gap, BadDouble}
-use Rattle.refusals.specs.Sheet.{row, NoRowHas}
+use Rattle.refusals.specs.Sheet.{row, NoRefusalHas, UnusedNumbers}
 
 -- neither 0 nor 6
 abbrev used : ℕ → Bool
@@ -27,13 +27,8 @@ row-used (MalformedCell t) = refl
 row-used (Gap t) = refl
 row-used (BadDouble t) = refl
 
-unused : (k : ℕ) → used k ≡ false → NoRowHas k
+unused : (k : ℕ) → used k ≡ false → NoRefusalHas k
 unused k e = record { none = λ r h. let b : true ≡ false = sym (row-used r) ∙ ap used h ∙ e in let z : _≡_ {A = ℕ} 0 1 = cc in omega arith }
 
--- success in other languages
-pub not-zero : NoRowHas 0
-not-zero = unused 0 refl
-
--- retired
-pub six-retired : NoRowHas 6
-six-retired = unused 6 refl
+pub unused-numbers : UnusedNumbers
+unused-numbers = record { six = unused 6 refl; zero = unused 0 refl }

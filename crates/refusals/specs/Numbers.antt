@@ -1,4 +1,5 @@
--- METHOD 8.5: an answer as numbers, for callers in other languages: 0 for success, else the refusal's number; its place beside it.
+-- METHOD 8.5: an answer as numbers, for callers in other languages: 0 for success, else the refusal's number, which is never 0 (Sheet,
+-- UnusedNumbers); its place beside it.
 use Prim.Native.Nat.{ℕ}
 use Rattle.refusals.specs.Sheet.{Answer, success, refusal}
 

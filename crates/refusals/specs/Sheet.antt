@@ -21,6 +21,7 @@ row BadStart = numbered 3 0
 row WrongLength = numbered 4 0
 -- a figure is outside its limits, the first of them at t
 row (FigureOutside t) = numbered 5 t
+-- 6 is retired: no refusal has it (below)
 -- a file has fewer than 4 bytes, by calendar month fewer than 6; a members' sheet fewer than 3
 row NoHeader = numbered 7 0
 -- a file's period is not 12
@@ -37,9 +38,14 @@ row (MalformedCell t) = numbered 12 t
 row (Gap t) = numbered 13 t
 row (BadDouble t) = numbered 14 t
 
--- METHOD 8.1 and 8.5: no row has this number (shown in proofs/RowNumbers.antt of 6, which is retired, and of 0, which is success in other languages)
-pub record NoRowHas (number : ℕ) : Type 0 where
+-- METHOD 8.1: no refusal has this number
+pub record NoRefusalHas (number : ℕ) : Type 0 where
   pub none : (r : Refusal) → row r .number ≡ number → ⊥
+
+-- METHOD 8.1: 6 is retired; 8.5: 0 tells callers in other languages of a success (shown in proofs/RowNumbers.antt)
+pub record UnusedNumbers : Type 0 where
+  pub six : NoRefusalHas 6
+  pub zero : NoRefusalHas 0
 
 -- an answer as METHOD 8 has it: a success with its values, or a refusal's number and place
 pub data Answer (A : Type 0) : Type 0 where

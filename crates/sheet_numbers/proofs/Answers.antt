@@ -6,7 +6,7 @@ use lib.IntN.{ℤ}
 use lib.Ieee.{Float}
 use Rattle.refusals.specs.declared.Refusal.{Refusal}
 use Rattle.refusals.specs.Sheet.{row}
-use Rattle.refusals.proofs.RowNumbers.{not-zero}
+use Rattle.refusals.proofs.RowNumbers.{unused-numbers}
 use Rattle.refusals.specs.Numbers.{numberOf, placeOf, valueOf}
 use Rattle.doubles.specs.Doubles.{positiveZero}
 use Rattle.members_sheet.specs.declared.SheetReading.{SheetReading}
@@ -36,5 +36,5 @@ module _ {sheet : List ℕ} {f₀ f : List ℤ} {r : SheetReading} (p : SheetDon
         total-is = z ∙ ap totalTold s;
         place-is = j ∙ ap placeOf s;
         figures-left = p .figuresLeft;
-        exact = λ z. absurd (not-zero .none q (sym i ∙ z));
+        exact = λ z. absurd (unused-numbers .zero .none q (sym i ∙ z));
       }

@@ -2,14 +2,16 @@
 use native.Mathlib.Omega.{arith}
 use Rattle.refusals.specs.Limits.{monthsOfYear}
 use Rattle.extremes.proofs.YearLaws.{month-inside}
+use Rattle.extremes.proofs.GroupMonths.{same-years}
 use Rattle.extremes.proofs.NoGroupEmptied.{no-group-emptied}
 use Rattle.tables.specs.PassB.{startB4, irregularB4, irregularB9}
 use Rattle.tables.specs.Tables.{B1, B13, C13}
-use Rattle.tables.specs.Weighings.{FourWeighings, NoWeighingEmpties}
+use Rattle.tables.specs.Weighings.{NoWeighingEmpties}
 use Rattle.tables.proofs.Sizes.{length-b1, length-irregularB4, length-irregularB9, length-b13, length-c13}
 
 pub no-weighing-empties : NoWeighingEmpties
 no-weighing-empties start f early late least = let month = month-inside start monthsOfYear 6 early late in record {
+  si1-years = same-years early late .from 6;
   si1 = no-group-emptied (startB4 start) monthsOfYear (irregularB4 (B1 start f)) (month .0) (month .1) (omega (arith, length-irregularB4 (B1 start f), length-b1 start f));
   si2 = no-group-emptied start monthsOfYear (irregularB9 start (B1 start f)) early late (omega (arith, length-irregularB9 start (B1 start f), length-b1 start f));
   b13 = no-group-emptied start monthsOfYear (B13 start f) early late (omega (arith, length-b13 start f));

@@ -1,15 +1,20 @@
 -- METHOD 5.8, of the four irregulars that are weighed: in no group is every month dropped (shown in proofs/Weighings.antt).
-use Prim.Native.Nat.{ℕ, _≤_}
+use Prim.Native.Nat.{ℕ, _+_, _≤_}
+use mathlib.Core.Path.{_≡_}
 use mathlib.Core.List.{List}
 use lib.ListN.{length}
 use lib.IntN.{ℤ}
 use Rattle.refusals.specs.Limits.{leastMonths, monthsOfYear}
+use Rattle.extremes.specs.Years.{yearOf}
 use Rattle.extremes.specs.NoGroupEmptied.{NoneEmptied}
 use Rattle.tables.specs.PassB.{startB4, irregularB4, irregularB9}
 use Rattle.tables.specs.Tables.{B1, B13, C13}
 
--- in pass B SI1, over n - 12 months from the calendar month of t = 6, and SI2, over n months (3.8; the book's tables B4 and B9); B13 and C13
+-- METHOD 5.8, of what is weighed: what the preliminary seasonals of pass B leave of SI1, over n - 12 months from the calendar month of t = 6, and of
+-- SI2, over n months (3.8; the book's tables B4 and B9); B13 and C13, over n months
 pub record FourWeighings (start : ℕ) (figures : List ℤ) : Type 0 where
+  -- the years of SI1 are those of the series, from the year of t = 6 on
+  pub si1-years : (t : ℕ) → yearOf start monthsOfYear (6 + t) ≡ yearOf start monthsOfYear 6 + yearOf (startB4 start) monthsOfYear t
   pub si1 : NoneEmptied (startB4 start) monthsOfYear (irregularB4 (B1 start figures))
   pub si2 : NoneEmptied start monthsOfYear (irregularB9 start (B1 start figures))
   pub b13 : NoneEmptied start monthsOfYear (B13 start figures)

@@ -8,9 +8,9 @@ use lib.IntN.{ℤ}
 use Rattle.integers.specs.Lists.{AllWithin}
 use Rattle.refusals.specs.Limits.{unit, monthsOfYear}
 use Rattle.series.specs.Operations.{minus, times}
-use Rattle.series.specs.Contracts.{Minusable}
+use Rattle.series.specs.Contracts.{Minusable, Figures}
 use Rattle.series.proofs.Lengths.{length-minus, length-times}
-use Rattle.series.proofs.Largest.{larger, within-minus}
+use Rattle.series.proofs.Largest.{larger, within-minus, within-times}
 use Rattle.extremes.specs.Contracts.{Weighable}
 use Rattle.extremes.specs.Weighing.{weightsOf}
 use Rattle.extremes.proofs.WeighingLaws.{length-weights, weights-most}
@@ -19,7 +19,10 @@ use Rattle.tables.specs.Bounds.{largestB1, largestC13}
 use Rattle.tables.proofs.Sizes.{length-irregular, within-irregular}
 use Rattle.figures.specs.Contracts.{WithSeasonal, WithWeights}
 use Rattle.three_passes.specs.Contracts.{Correctable, lessExtremes, ExtremesCorrected}
-use Rattle.three_passes.proofs.Grains.{within-grains}
+
+-- B1 as the code has it, the figures times 1,000
+pub within-grains : {f : List ℤ} → Figures f → AllWithin largestB1 (times unit f)
+within-grains {f} h = within-times unit f (h .small)
 
 module _ {start : ℕ} {f s t : List ℤ} (h : Correctable start f s t) where
   abbrev b1 : List ℤ

@@ -35,7 +35,7 @@ use Rattle.seasonal_choice.specs.Contracts.{Choosable}
 use Rattle.figures.specs.Contracts.{WithSeasonal}
 use Rattle.series.specs.Contracts.{Workable}
 use Rattle.three_passes.specs.Contracts.{Correctable, lessExtremes, ExtremesCorrected, CorrectedTo, ChoiceTables, Final, Finished}
-use Rattle.three_passes.proofs.Grains.{within-grains}
+use Rattle.three_passes.proofs.Correcting.{within-grains}
 
 -- ---- passes B and C
 module _ {start : ℕ} {f : List ℤ} (h : Workable start f) where

@@ -49,7 +49,7 @@ pub record ExtremesCorrected (start : ℕ) (b1 s t x i : List ℤ) (w : List ℕ
   pub irregular : i ≡ irregularOf b1 s t
   pub weights : w ≡ weightsOf start monthsOfYear (irregularOf b1 s t)
 
--- what pass B or C leaves: the next series and its weights
+-- what pass B or C leaves: the next series, and the weights of the irregular by which it was corrected
 pub record CorrectedTo (series : List ℤ) (weights : List ℕ) (x : List ℤ) (w : List ℕ) : Type 0 where
   pub series-is : x ≡ series
   pub weights-is : w ≡ weights

@@ -6,7 +6,7 @@ use lib.IntN.{ℤ}
 use Rattle.refusals.specs.Sheet.{row}
 use Rattle.refusals.specs.Numbers.{numberOf, placeOf}
 use Rattle.refusals.specs.declared.Refusal.{Refusal}
-use Rattle.refusals.proofs.RowNumbers.{not-zero}
+use Rattle.refusals.proofs.RowNumbers.{unused-numbers}
 use Rattle.decompose.specs.Promise as tables
 use Rattle.decompose.specs.declared.Decomposed.{Decomposed}
 use Rattle.decompose.specs.declared.Decomposed.the-variants as decomposed
@@ -19,4 +19,4 @@ module _ {start : ℕ} {f : List ℤ} {lent left : tables.Slices} {r : Decompose
 
   pub not-tables : {q : Refusal} {k t : ℕ} → r ≡ decomposed.Refused q → k ≡ row q .number → t ≡ row q .place → DecomposeNumbers start f lent k t left
   not-tables {q} e i j = let s = ap tables.says (sym e) ∙ p .answered in
-      record { number-is = i ∙ ap numberOf s; place-is = j ∙ ap placeOf s; slices = p .slices; near = λ z. absurd (not-zero .none q (sym i ∙ z)); passes = p .passes }
+      record { number-is = i ∙ ap numberOf s; place-is = j ∙ ap placeOf s; slices = p .slices; near = λ z. absurd (unused-numbers .zero .none q (sym i ∙ z)); passes = p .passes }

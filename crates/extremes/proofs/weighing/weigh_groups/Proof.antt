@@ -9,8 +9,7 @@ use borrow.Author.Needs.{needs}
 use Rattle.integers.specs.Filling.{Filled}
 use Rattle.integers.proofs.FillingLaws.{filled-none, filled-tab}
 use Rattle.refusals.specs.Limits.{mostMonths}
-use Rattle.extremes.specs.Years.{years, group}
-use Rattle.extremes.specs.Spreads.{secondSpread}
+use Rattle.extremes.specs.Years.{years}
 use Rattle.extremes.specs.Weighing.{monthWeight, weightsBy}
 use Rattle.extremes.specs.Contracts.{sizesIn, servedFrom}
 use Rattle.extremes.proofs.YearLaws.{years-some, years-few, served-first, served-end, served-order}
