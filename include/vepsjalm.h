@@ -80,8 +80,8 @@
 
    In moving, 7 and 9 are of the file that is moved, 4 of the output. A refusal changes no slice.
 
-   There is no 6. It was VEPSJALM_EMPTY_GROUP, for a group of months that dropping would leave empty, which is proved never to happen. The number
-   is retired: no function answers it, and it is not used again. */
+   There is no 6. It was VEPSJALM_EMPTY_GROUP, for a group of which dropping would leave no month, and there is proved to be no such group. The
+   number is retired: no function answers it, and no row gets it any more. */
 #define VEPSJALM_SUCCESS 0
 #define VEPSJALM_TOO_SHORT 1
 #define VEPSJALM_TOO_LONG 2

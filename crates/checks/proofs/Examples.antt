@@ -20,6 +20,7 @@ first-rows = record {
   figure-at-0 = refl;
   figure-at-44 = refl;
   one-first = refl;
+  two-before-three = refl;
   three-before-four = refl;
   four-before-five = refl;
   fewest = refl;

@@ -1,3 +1,3 @@
--- Laws of rows 1 to 5, and examples of row 4.
+-- Laws of rows 1 to 5, and their examples.
 pub mod Rows
 pub mod Examples

@@ -1,4 +1,4 @@
--- What the checks find, for the passes. Nothing here is promised to a caller of the desk.
+-- What the checks find, for the entry point. Nothing here is promised to a caller of the desk.
 use mathlib.Core.Path.{_≡_}
 use mathlib.Core.List.{List}
 use Prim.Native.Nat.{ℕ, _≤_}

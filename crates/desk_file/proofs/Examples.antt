@@ -14,6 +14,7 @@ pub reading-rows : ReadingRows
 unfolding tabFrom tab startInside figureInside weightInside firstFrom firstFailing firstOutside firstAbove numberAt signed storedFigure storedWeight figuresAt weightsAt countIn startIn periodIn seriesIn readAnswer
 reading-rows = record {
   no-header = refl;
+  seven-first = refl;
   too-few = refl;
   too-many = refl;
   month-13 = refl;

@@ -13,7 +13,7 @@ use Rattle.integers.specs.Lists.{tabFrom, tab}
 use Rattle.integers.specs.Root.{oneMore, rootIn, root}
 use Rattle.integers.proofs.RootLaws.{root-is}
 use Rattle.extremes.specs.Spreads.{sizesOf, squares, spread, keep, limitOf, remaining}
-use Rattle.extremes.specs.NoGroupEmptied.{Among, Smallest, SmallestStays, NoGroupEmptied, GroupsThatStay}
+use Rattle.extremes.specs.NoGroupEmptied.{Among, Smallest, SmallestStays, NoGroupEmptied, MonthsThatStay}
 use Rattle.extremes.proofs.HeldSizes.{length-sizesOf}
 use Rattle.extremes.proofs.GroupMonths.{group-some}
 
@@ -102,6 +102,6 @@ no-group-emptied start period x early late least =
     record { each = λ y. smallest-stays _ (group-some (sizesOf x) start period (length-sizesOf x) early late least y) }
 
 -- the examples, by computation
-pub groups-that-stay : GroupsThatStay
+pub months-that-stay : MonthsThatStay
 unfolding tabFrom tab oneMore rootIn root squares spread keep limitOf remaining
-groups-that-stay = record { first-of-sevens = refl; sevens-stay = refl; first-of-ones = refl; one-stays = refl }
+months-that-stay = record { first-of-sevens = refl; sevens-stay = refl; first-of-ones = refl; zero-stays = refl }

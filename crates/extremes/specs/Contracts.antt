@@ -20,7 +20,8 @@ abbrev pub largestSize : ℕ
 largestSize = 110_000_000
 
 -- ---- years
--- five times `period` months or more from a start month, so that a year has two years before it and two after. Nothing more is asked of the period
+-- five times `period` months or more, 600 at most, from a start month, so that some year has two before it and two after. Nothing more is asked of the
+-- period
 pub record Calendar (start period n : ℕ) : Type 0 where
   pub least : 5 * period ≤ n
   pub most : n ≤ mostMonths

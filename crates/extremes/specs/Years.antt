@@ -53,8 +53,8 @@ pub record BegunYears : Type 0 where
   pub first-months : tab 11 (λ y. getD (group 10 monthsOfYear (tab 114 (λ t. t)) y) 0 0) ≡ 0 ∷ 0 ∷ 0 ∷ 3 ∷ 15 ∷ 27 ∷ 39 ∷ 51 ∷ 63 ∷ 63 ∷ 63 ∷ []
   pub lengths : tab 11 (λ y. length (group 10 monthsOfYear (tab 114 (λ t. t)) y)) ≡ 51 ∷ 51 ∷ 51 ∷ 60 ∷ 60 ∷ 60 ∷ 60 ∷ 60 ∷ 51 ∷ 51 ∷ 51 ∷ []
 
--- METHOD 3.8 and 5.2: SI1 of 72 months has 60. From start month 1 it begins in month 7 and touches six years, which use groups of 54 months; from start month 7 it begins in month
--- 1 and touches five, which all use one group of all months (shown in proofs/GroupMonths.antt)
+-- METHOD 3.8 and 5.2: SI1 of 72 months has 60. From start month 1 it begins in month 7 and touches six years, which use groups of 54 months; from
+-- start month 7 it begins in month 1 and touches five, which all use one group of all months (shown in proofs/GroupMonths.antt)
 pub record FewestYears : Type 0 where
   pub from-january : monthOf 1 monthsOfYear 6 ≡ 7
   pub six : years 7 monthsOfYear 60 ≡ 6

@@ -86,7 +86,7 @@ hendersonWeights = pos 4032 ∷ pos 3600 ∷ pos 3600 ∷ negsuc 324 ∷ negsuc 
 abbrev hendersonHalves : ℕ → List ℤ
 hendersonHalves c = at (filter (tableHenderson Thirteen) (one c 8_398)) (c ∷ (c - 2) ∷ (c + 2) ∷ (c - 6) ∷ (c + 6) ∷ [])
 
--- the sizes of the group that the list works
+-- the sizes of the group whose weights the list works
 abbrev exampleGroup : List ℕ
 exampleGroup = 0 ∷ 0 ∷ 0 ∷ 1 ∷ []
 

@@ -56,7 +56,8 @@ readText (refusal number place) file = refusedLine number place
 unfoldable pub printed : List ℕ → List ℕ
 printed file = readText (readAnswer file mostMonths mostMonths) file
 
--- METHOD 9.1: if reading accepts a file, whatever lengths it was lent, the text is that of its tables: decomposing never refuses it
+-- METHOD 9.1: if reading accepts a file, whatever lengths it was lent, the text is that of its tables: decomposing never refuses it (shown in
+-- proofs/ReadPrinted.antt)
 abbrev pub ReadThenPrinted : Type 0
 ReadThenPrinted = (file : List ℕ) (figuresRoom weightsRoom n start : ℕ) → readAnswer file figuresRoom weightsRoom ≡ accepted n start
     → printed file ≡ tablesText (tablesOf start (seriesIn file .figures)) start

@@ -21,7 +21,7 @@ row BadStart = numbered 3 0
 row WrongLength = numbered 4 0
 -- a figure is outside its limits, the first of them at t
 row (FigureOutside t) = numbered 5 t
--- 6 is retired: no refusal has it (below)
+-- 6 is retired: no refusal has it (UnusedNumbers)
 -- a file has fewer than 4 bytes, by calendar month fewer than 6; a members' sheet fewer than 3
 row NoHeader = numbered 7 0
 -- a file's period is not 12

@@ -1,4 +1,4 @@
--- What the functions ask of their arguments. Nothing here is promised to a caller of the desk.
+-- What the functions ask of their arguments, and figures that can be worked, for the crates above. Nothing here is promised to a caller of the desk.
 use mathlib.Core.Path.{_≡_}
 use mathlib.Core.List.{List}
 use Prim.Native.Nat.{ℕ, _*_, _≤_}
@@ -35,7 +35,7 @@ pub record Figures (figures : List ℤ) : Type 0 where
   pub short : length figures ≤ mostMonths
   pub small : AllWithin largestFigure figures
 
--- such figures, as many as a series has, and a start month
+-- such figures, 72 or more, and a start month from 1 to 12
 pub record Workable (start : ℕ) (f : List ℤ) : Type 0 where
   pub figures : Figures f
   pub long : leastMonths ≤ length f

@@ -7,7 +7,7 @@ use lib.IntN.{ℤ}
 use Rattle.integers.specs.Lists.{AllWithin}
 use Rattle.refusals.specs.Limits.{leastMonths, monthsOfYear}
 use Rattle.series.specs.Operations.{minus}
-use Rattle.series.specs.Contracts.{Figures}
+use Rattle.series.specs.Contracts.{Figures, Workable}
 use Rattle.rows.specs.declared.SeasonalFilter.{SeasonalFilter}
 use Rattle.rows.specs.declared.Terms.{Terms}
 use Rattle.rows.specs.FilterTables.{tableHenderson}
@@ -17,7 +17,6 @@ use Rattle.extremes.specs.Weighing.{weightsOf}
 use Rattle.tables.specs.Tables.{choicesD, irregularOf, corrections, B17, C7, C10, C13, C17, D1, D10, D11, D12, D13}
 use Rattle.tables.specs.Bounds.{largestC7, largestC10, largestD1}
 use Rattle.scratch.specs.Scratch.{zeroed}
-use Rattle.series.specs.Contracts.{Workable}
 
 -- the seasonal and the trend that a pass leaves to find extreme months by: B10 and B7, or C10 and C7
 pub record Correctable (start : ℕ) (f s t : List ℤ) : Type 0 where
