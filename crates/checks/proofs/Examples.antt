@@ -12,17 +12,4 @@ row-four = record { enough = refl; too-few = refl; more = refl; enough-600 = ref
 
 pub first-rows : FirstRows
 unfolding tabFrom tab startInside figureInside firstFrom firstFailing firstOutside fitting answerFor
-first-rows = record {
-  too-few = refl;
-  too-many = refl;
-  month-13 = refl;
-  d10-of-71 = refl;
-  figure-at-0 = refl;
-  figure-at-44 = refl;
-  one-first = refl;
-  two-before-three = refl;
-  three-before-four = refl;
-  four-before-five = refl;
-  fewest = refl;
-  most = refl;
-}
+first-rows = record { too-few = refl; too-many = refl; month-13 = refl; d10-of-71 = refl; figure-at-0 = refl; figure-at-44 = refl; one-first = refl; two-before-three = refl; three-before-four = refl; four-before-five = refl; fewest = refl; most = refl }

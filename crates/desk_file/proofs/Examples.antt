@@ -12,16 +12,4 @@ use Rattle.desk_file.specs.Examples.{ReadingRows}
 
 pub reading-rows : ReadingRows
 unfolding tabFrom tab startInside figureInside weightInside firstFrom firstFailing firstOutside firstAbove numberAt signed storedFigure storedWeight figuresAt weightsAt countIn startIn periodIn seriesIn readAnswer
-reading-rows = record {
-  no-header = refl;
-  seven-first = refl;
-  too-few = refl;
-  too-many = refl;
-  month-13 = refl;
-  period-4 = refl;
-  bytes-435 = refl;
-  room-of-71 = refl;
-  figure-at-0 = refl;
-  weight-at-5 = refl;
-  good = refl;
-}
+reading-rows = record { no-header = refl; seven-first = refl; too-few = refl; too-many = refl; month-13 = refl; period-4 = refl; bytes-435 = refl; room-of-71 = refl; figure-at-0 = refl; weight-at-5 = refl; good = refl }

@@ -11,8 +11,9 @@ use Rattle.desk_file.specs.ReadFile.{accepted, readAnswer}
 abbrev pub fileWith : ℕ → List ℕ → List ℕ
 fileWith place bytes = 72 ∷ 0 ∷ 1 ∷ 12 ∷ replicate place 0 ++ bytes ++ replicate (432 - place - length bytes) 0
 
--- METHOD 8.1 and 8.2, each with later rows that apply too where there are such: 3 bytes; 71 and 601 months; start month 13; period 4; 435 bytes; room for 71 figures; 200,001 (65 + 13 · 256 + 3 · 256²) at t = 0;
--- 1,001 (233 + 3 · 256) at t = 5. A good file, with -200,000 at t = 71 and the weight 1,000 at t = 0, is accepted
+-- METHOD 8.1 and 8.2, most of them with later rows that apply too: 3 bytes; 71 and 601 months; start month 13; period 4; 435 bytes; room for 71 figures;
+-- 200,001 (65 + 13 · 256 + 3 · 256²) at t = 0; 1,001 (233 + 3 · 256) at t = 5. A good file, with -200,000 at t = 71 and the weight 1,000 at t = 0, is
+-- accepted
 pub record ReadingRows : Type 0 where
   pub no-header : readAnswer (72 ∷ 0 ∷ 1 ∷ []) 72 72 ≡ refusal 7 0
   pub seven-first : readAnswer (71 ∷ 0 ∷ 13 ∷ []) 72 72 ≡ refusal 7 0

@@ -1,4 +1,5 @@
--- METHOD 5: years and groups, spreads, weights and corrections, and that no group is emptied. Contracts has what the functions ask, and what `weights` promises.
+-- METHOD 5: years and groups, spreads, weights and corrections, and that no group is emptied. Contracts has what the functions ask, and what `weights`
+-- promises.
 pub mod Years
 pub mod Spreads
 pub mod Weighing
