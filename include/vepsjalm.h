@@ -31,10 +31,10 @@
 /* The version of this header and of the library that goes with it (the library does not tell its own), major.minor.patch. The minor number
    goes up with every landing that changes what callers see, the patch number with every other; the major number is 0 while functions and
    constants may still change. */
-#define VEPSJALM_VERSION "0.18.0"
+#define VEPSJALM_VERSION "0.18.1"
 #define VEPSJALM_VERSION_MAJOR 0
 #define VEPSJALM_VERSION_MINOR 18
-#define VEPSJALM_VERSION_PATCH 0
+#define VEPSJALM_VERSION_PATCH 1
 
 /* The limits. */
 #define VEPSJALM_LEAST_MONTHS 72       /* months of a series, n */

@@ -14,7 +14,7 @@ use std::path::{Path, PathBuf};
 use std::process::{Command, Output, Stdio};
 use std::sync::LazyLock;
 
-const VERSION: [usize; 3] = [0, 18, 0];
+const VERSION: [usize; 3] = [0, 18, 1];
 
 /// The words of the refusal sheet by number, and those for every other number. There is no 6.
 const TEXTS: [(u8, &str); 14] = [
