@@ -30,7 +30,7 @@ use Rattle.doubles.proofs.Exact.{double-exact, zero-positive}
 use Rattle.sheet_cells.specs.declared.Cell.the-variants.{Gap, Figure, Revision}
 use Rattle.sheet_cells.specs.declared.CellRead.{CellRead}
 use Rattle.sheet_cells.specs.declared.CellRead.the-variants.{Known, Malformed}
-use Rattle.sheet_cells.specs.Cells.{sheetLength, kindAt, firstAt, secondAt, cellAt, newest, revision}
+use Rattle.sheet_cells.specs.Cells.{sheetLength, withMonth, importedAt, kindAt, firstAt, secondAt, cellAt, newest, revision}
 use Rattle.sheet_cells.specs.CellChecks.{isMalformed, isGap, cellChecks}
 use Rattle.sheet_cells.proofs.CellLaws.{Takes, cell-figure, cell-revision, cell-passed}
 use Rattle.members_sheet.specs.declared.SheetReading.{SheetReading}
@@ -98,9 +98,9 @@ at-map f (x ∷ xs) d e zero h = refl
 at-map f (x ∷ xs) d e (suc t) h = at-map f xs d e t (omega arith)
 
 -- ---- what a cell that was made means
-abbrev meant : Entry → CellRead
-meant (figure z) = Known (Figure (doubleOf z))
-meant (revised old new) = Known (Revision (doubleOf old) (doubleOf new))
+abbrev meant : ℕ → Entry → CellRead
+meant t (figure z) = Known (Figure (withMonth t (doubleOf z)))
+meant t (revised old new) = Known (Revision (withMonth t (doubleOf old)) (withMonth t (doubleOf new)))
 
 exact : (z : ℤ) → figureInside z ≡ true → IsNumber (doubleOf z) z
 exact z h = double-exact z (omega (arith, figure-inside z h))
@@ -108,30 +108,30 @@ exact z h = double-exact z (omega (arith, figure-inside z h))
 double-counts : (z : ℤ) → figureInside z ≡ true → counts (doubleOf z) ≡ true
 double-counts z h = number-counts (doubleOf z) z (exact z h) h
 
-meant-taken : (e : Entry) → EntryInside e → Takes (meant e)
-meant-taken (figure z) h = double-counts z h
-meant-taken (revised old new) h = (double-counts old (h .0), double-counts new (h .1))
+meant-taken : (t : ℕ) (e : Entry) → EntryInside e → Takes (meant t e)
+meant-taken t (figure z) h = double-counts z h
+meant-taken t (revised old new) h = (double-counts old (h .0), double-counts new (h .1))
 
-meant-newest : (e : Entry) → EntryInside e → numberIn (newest (meant e)) ≡ newestOf e
-meant-newest (figure z) h = exact z h .number
-meant-newest (revised old new) h = exact new (h .1) .number
+meant-newest : (t : ℕ) (e : Entry) → EntryInside e → numberIn (newest (meant t e)) ≡ newestOf e
+meant-newest t (figure z) h = exact z h .number
+meant-newest t (revised old new) h = exact new (h .1) .number
 
-meant-revision : (e : Entry) → EntryInside e → revision (meant e) ≡ revisionOf e
-meant-revision (figure z) h = refl
-meant-revision (revised old new) h = rw (exact old (h .0) .number, exact new (h .1) .number)
+meant-revision : (t : ℕ) (e : Entry) → EntryInside e → revision (meant t e) ≡ revisionOf e
+meant-revision t (figure z) h = refl
+meant-revision t (revised old new) h = rw (exact old (h .0) .number, exact new (h .1) .number)
 
 bits-back : (z : ℤ) {w : ℕ} → w ≡ toBits binary64 (doubleOf z) → ofBits binary64 w ≡ doubleOf z
 bits-back z e = ap (ofBits binary64) e ∙ ofBits-toBits binary64 (doubleOf z) (ofInt-fits binary64 z)
 
 -- a cell with this kind and these doubles
 cell-meant : (sheet : List ℕ) (t : ℕ) (e : Entry) → kindAt sheet t ≡ kindOf e → numberAt sheet (firstAt sheet t) 8 ≡ firstBits e → numberAt sheet (secondAt sheet t) 8 ≡ secondBits e
-    → cellAt sheet t ≡ meant e
-unfolding doubleAt unusedAt
-cell-meant sheet t (figure z) k f s = cell-figure sheet t k (rw s) ∙ ap (λ (x : Float). Known (Figure x)) (bits-back z f)
+    → cellAt sheet t ≡ meant t e
+unfolding doubleAt unusedAt importedAt
+cell-meant sheet t (figure z) k f s = cell-figure sheet t k (rw s) ∙ ap (λ (x : Float). Known (Figure (withMonth t x))) (bits-back z f)
 cell-meant sheet t (revised old new) k f s =
     cell-revision sheet t k
-    ∙ ap (λ (x : Float). Known (Revision x (doubleAt sheet (secondAt sheet t)))) (bits-back old f)
-    ∙ ap (λ (x : Float). Known (Revision (doubleOf old) x)) (bits-back new s)
+    ∙ ap (λ (x : Float). Known (Revision (withMonth t x) (importedAt sheet t (secondAt sheet t)))) (bits-back old f)
+    ∙ ap (λ (x : Float). Known (Revision (withMonth t (doubleOf old)) (withMonth t x))) (bits-back new s)
 
 -- ---- the sheet of a series
 module _ (start : ℕ) (entries : List Entry) where
@@ -199,17 +199,17 @@ module _ (start : ℕ) (entries : List Entry) where
           let e : 3 + countIn (sheetOf start entries) + 16 * t + 8 ≡ 3 + length entries + (16 * t + 8) = omega (arith, count-back) in
           rw (e, past-kinds (16 * t + 8) 8) (in-cell entries t 8 8 (secondBits here) h (second-double here))
 
-      cell-back : cellAt (sheetOf start entries) t ≡ meant here
+      cell-back : cellAt (sheetOf start entries) t ≡ meant t here
       cell-back = cell-meant (sheetOf start entries) t here kind-back first-back second-back
 
       cell-taken : Before 3 (cellChecks (sheetOf start entries) t)
-      cell-taken = cell-passed (sheetOf start entries) t (rw cell-back (meant-taken here (w .each t h)))
+      cell-taken = cell-passed (sheetOf start entries) t (rw cell-back (meant-taken t here (w .each t h)))
 
       figure-back : getD (map newestOf entries) t (pos 0) ≡ numberIn (newest (cellAt (sheetOf start entries) t))
-      figure-back = at-map newestOf entries (figure (pos 0)) (pos 0) t h ∙ rw cell-back (sym (meant-newest here (w .each t h)))
+      figure-back = at-map newestOf entries (figure (pos 0)) (pos 0) t h ∙ rw cell-back (sym (meant-newest t here (w .each t h)))
 
       revision-back : revision (cellAt (sheetOf start entries) t) ≡ revisionOf here
-      revision-back = rw cell-back (meant-revision here (w .each t h))
+      revision-back = rw cell-back (meant-revision t here (w .each t h))
 
     figures-back : map newestOf entries ≡ figuresIn (sheetOf start entries)
     unfolding figuresIn

@@ -3,8 +3,8 @@ use Prim.Native.Nat.{ℕ, zero, suc, _+_, _*_, _≤_, _<_}
 use mathlib.Core.Path.{_≡_, ap, sym, subst}
 use mathlib.Core.List.{List}
 use native.Mathlib.Omega.{arith}
-use lib.IntN.{ℤ, pos, natAbs, _+ℤ_, _-ℤ_}
-use lib.Ieee.{Float, binary64, sub}
+use lib.IntN.{ℤ, pos, natAbs, _+ℤ_}
+use lib.Ieee.{Float}
 use Rattle.integers.specs.Sums.{sumZ}
 use Rattle.integers.proofs.Differences.{rep, ringℤ}
 use Rattle.integers.proofs.SizeLaws.{abs-add, abs-sub}
@@ -33,22 +33,23 @@ cell-size : (c : CellRead) → Takes c → natAbs (revision c) ≤ 400000
 cell-size Malformed h = absurd h
 cell-size (Known Gap) h = absurd h
 cell-size (Known (Figure figure)) h = omega arith
-cell-size (Known (Revision old new)) h = omega (arith, abs-sub (numberIn new) (numberIn old), counts-size old (h .0), counts-size new (h .1))
+cell-size (Known (Revision old new)) h = omega (arith, abs-sub (numberIn (new .double)) (numberIn (old .double)), counts-size (old .double) (h .0), counts-size (new .double) (h .1))
 
 cell-difference : (c : CellRead) → Takes c → IsNumber (difference c) (revision c)
 cell-difference Malformed h = absurd h
 cell-difference (Known Gap) h = absurd h
 cell-difference (Known (Figure figure)) h = subst (λ (x : Float). IsNumber x (pos 0)) zero-positive (double-exact (pos 0) (omega arith))
 cell-difference (Known (Revision old new)) h =
-    difference-exact new old (numberIn new) (numberIn old) (omega (arith, counts-size new (h .1))) (omega (arith, counts-size old (h .0)))
-    (counts-number new (h .1)) (counts-number old (h .0))
+    let x = new .double in
+    let y = old .double in
+    difference-exact x y (numberIn x) (numberIn y) (omega (arith, counts-size x (h .1))) (omega (arith, counts-size y (h .0))) (counts-number x (h .1)) (counts-number y (h .0))
 
 cell-sum : (c : CellRead) (z : ℤ) → Takes c → natAbs z ≤ 240000000 → revisedBy (doubleOf z) c ≡ doubleOf (z +ℤ revision c)
 cell-sum Malformed z h l = absurd h
 cell-sum (Known Gap) z h l = absurd h
 cell-sum (Known (Figure figure)) z h l = ap doubleOf (nothing-added z)
 cell-sum (Known (Revision old new)) z h l =
-    sum-exact z (numberIn new -ℤ numberIn old) (sub binary64 new old) (omega arith) (cell-difference (Known (Revision old new)) h)
+    sum-exact z (revision (Known (Revision old new))) (difference (Known (Revision old new))) (omega arith) (cell-difference (Known (Revision old new)) h)
 
 -- ---- all of them
 module _ (sheet : List ℕ) (n : ℕ) (most : n ≤ mostMonths) (a : AllAccepted sheet n) where

@@ -17,7 +17,7 @@ use Rattle.doubles.specs.Doubles.{doubleOf, positiveZero}
 use Rattle.sheet_cells.specs.declared.Cell.the-variants.{Gap, Figure, Revision}
 use Rattle.sheet_cells.specs.declared.CellRead.{CellRead}
 use Rattle.sheet_cells.specs.declared.CellRead.the-variants.{Known, Malformed}
-use Rattle.sheet_cells.specs.Cells.{cellAt}
+use Rattle.sheet_cells.specs.Cells.{withMonth, cellAt}
 use Rattle.sheet_cells.specs.CellChecks.{allCount}
 use Rattle.members_sheet.specs.declared.SheetReading.{SheetReading}
 use Rattle.members_sheet.specs.ReadSheet.{SheetAccepted, sheetAccepted, sheetSays, SheetDone}
@@ -104,7 +104,7 @@ abbrev pub withoutOld : CellRead → CellRead
 withoutOld Malformed = Malformed
 withoutOld (Known Gap) = Known Gap
 withoutOld (Known (Figure x)) = Known (Figure x)
-withoutOld (Known (Revision old new)) = Known (Revision positiveZero new)
+withoutOld (Known (Revision old new)) = Known (Revision (withMonth (old .month) positiveZero) new)
 
 -- two sheets that differ in nothing but old figures; every double that the second uses counts (where the first is accepted, this asks it of old
 -- figures alone)

@@ -1,6 +1,6 @@
 -- Laws of the cells of a members' sheet: each kind, and what the checks of a cell say.
 use Prim.Native.Nat.{ℕ, _+_, _*_}
-use mathlib.Core.Path.{_≡_, refl, sym, ap, _∙_}
+use mathlib.Core.Path.{_≡_, refl, sym, ap, subst, _∙_}
 use mathlib.Core.Bool.{Bool, true, false, not, cond, _&&_}
 use mathlib.Core.List.{List}
 use native.Mathlib.Omega.{arith}
@@ -23,9 +23,9 @@ use Rattle.sheet_cells.specs.declared.Cell.the-variants.{Gap, Figure, Re
 use Rattle.sheet_cells.specs.declared.CellRead.{CellRead}
 use Rattle.sheet_cells.specs.declared.Imported.{Imported}
 use Rattle.sheet_cells.specs.declared.CellRead.the-variants.{Known, Malformed}
-use Rattle.sheet_cells.specs.Cells.{kindAt, firstAt, secondAt, cellAt, newest}
+use Rattle.sheet_cells.specs.Cells.{withMonth, importedAt, kindAt, firstAt, secondAt, cellAt, newest}
 use Rattle.sheet_cells.specs.CellChecks.{isMalformed, isGap, allCount, checksOf, cellChecks}
-use Rattle.sheet_cells.specs.Contracts.{withMonth, acceptance, Says}
+use Rattle.sheet_cells.specs.Contracts.{OfMonth, acceptance, Says}
 
 fine-refused : {q : Refusal} → Fine ≡ Refused q → ⊥
 fine-refused e = let z : _≡_ {A = ℕ} 0 1 = cc in omega arith
@@ -36,11 +36,11 @@ unfolding kindAt numberAt
 kind-byte sheet t = omega arith
 
 module _ (sheet : List ℕ) (t : ℕ) where
-  pub cell-revision : kindAt sheet t ≡ 2 → cellAt sheet t ≡ Known (Revision (doubleAt sheet (firstAt sheet t)) (doubleAt sheet (secondAt sheet t)))
+  pub cell-revision : kindAt sheet t ≡ 2 → cellAt sheet t ≡ Known (Revision (importedAt sheet t (firstAt sheet t)) (importedAt sheet t (secondAt sheet t)))
   unfolding cellAt
   cell-revision k = rw k
 
-  pub cell-figure : kindAt sheet t ≡ 1 → unusedAt sheet (secondAt sheet t) ≡ true → cellAt sheet t ≡ Known (Figure (doubleAt sheet (firstAt sheet t)))
+  pub cell-figure : kindAt sheet t ≡ 1 → unusedAt sheet (secondAt sheet t) ≡ true → cellAt sheet t ≡ Known (Figure (importedAt sheet t (firstAt sheet t)))
   unfolding cellAt
   cell-figure k u = rw (k, u)
 
@@ -66,6 +66,35 @@ module _ (sheet : List ℕ) (t : ℕ) where
   pub kind-unknown : (kindAt sheet t ≡ 0 → ⊥) → (kindAt sheet t ≡ 1 → ⊥) → (kindAt sheet t ≡ 2 → ⊥) → cellAt sheet t ≡ Malformed
   unfolding cellAt
   kind-unknown a b c = rw (ne-eqb (kindAt sheet t) 0 a, ne-eqb (kindAt sheet t) 1 b, ne-eqb (kindAt sheet t) 2 c)
+
+-- each double of a cell that is read is with its month
+pub cell-month : (sheet : List ℕ) (t : ℕ) → OfMonth t (cellAt sheet t)
+unfolding cellAt importedAt
+cell-month sheet t =
+    by (eqb (kindAt sheet t) 0) (eqb (kindAt sheet t) 1) (eqb (kindAt sheet t) 2)
+    (unusedAt sheet (firstAt sheet t) && unusedAt sheet (secondAt sheet t)) (unusedAt sheet (secondAt sheet t))
+    (doubleAt sheet (firstAt sheet t)) (doubleAt sheet (secondAt sheet t))
+  where
+    by : (gap figure revision both second : Bool) (x y : Float)
+        → OfMonth t (cond gap (cond both (Known Gap) Malformed) (cond figure (cond second (Known (Figure (withMonth t x))) Malformed)
+        (cond revision (Known (Revision (withMonth t x) (withMonth t y))) Malformed)))
+    by true f r true s x y = tt
+    by true f r false s x y = tt
+    by false true r b true x y = refl
+    by false true r b false x y = tt
+    by false false true b s x y = (refl, refl)
+    by false false false b s x y = tt
+
+-- its figure is with that month
+pub figure-month : {t : ℕ} {c : CellRead} {d : Imported} → OfMonth t c → c ≡ Known (Figure d) → d ≡ withMonth t (newest c)
+figure-month {t} {c} {d} m e =
+    let n : d .month ≡ t = subst (OfMonth t) e m in
+    ap (λ (k : ℕ). withMonth k (d .double)) n ∙ ap (λ (x : CellRead). withMonth t (newest x)) (sym e)
+
+pub new-month : {t : ℕ} {c : CellRead} {old new : Imported} → OfMonth t c → c ≡ Known (Revision old new) → new ≡ withMonth t (newest c)
+new-month {t} {c} {old} {new} m e =
+    let n : (old .month ≡ t) × (new .month ≡ t) = subst (OfMonth t) e m in
+    ap (λ (k : ℕ). withMonth k (new .double)) (n .1) ∙ ap (λ (x : CellRead). withMonth t (newest x)) (sym e)
 
 -- where the doubles of month t start
 pub first-place : (sheet : List ℕ) (n t : ℕ) → n ≡ countIn sheet → 3 + n + 16 * t ≡ firstAt sheet t
@@ -95,44 +124,49 @@ gap-says t = record { at = 1; before = (refl, tt); here = refl }
 double-bad : (c : CellRead) (t : ℕ) → isMalformed c ≡ false → isGap c ≡ false → allCount c ≡ false → Stopped (BadDouble t) (checksOf c t)
 double-bad c t b g d = record { at = 2; before = (b, (g, tt)); here = rw d }
 
-pub figure-says : (x : Float) (t : ℕ) → Says (checksOf (Known (Figure x)) t) (acceptance (withMonth t x))
-figure-says x t = by (counts x) refl
-  where
-    by : (b : Bool) → counts x ≡ b → Says (checksOf (Known (Figure x)) t) (acceptance (withMonth t x))
-    by true e = rw (accepted (withMonth t x) e) (refl & refl & ap not e & tt)
-    by false e = rw (not-accepted (withMonth t x) e) (double-bad (Known (Figure x)) t refl refl e)
+module _ {t : ℕ} where
+  -- where its double does not count, a double of month t is refused with that place
+  refused-at : (d : Imported) → d .month ≡ t → counts (d .double) ≡ false → acceptance d ≡ Refused (BadDouble t)
+  refused-at d m h = not-accepted d h ∙ ap (λ (k : ℕ). Refused (BadDouble k)) m
 
--- of a revision the old figure is looked at, and the new one where that counts
-pub old-says : (old new : Float) (t : ℕ) {q : Refusal} → acceptance (withMonth t old) ≡ Refused q
-    → Says (checksOf (Known (Revision old new)) t) (acceptance (withMonth t old))
-old-says old new t {q} h = by (counts old) refl
-  where
-    by : (b : Bool) → counts old ≡ b → Says (checksOf (Known (Revision old new)) t) (acceptance (withMonth t old))
-    by true e = absurd (fine-refused (sym (accepted (withMonth t old) e) ∙ h))
-    by false e = rw (not-accepted (withMonth t old) e) (double-bad (Known (Revision old new)) t refl refl (rw e))
+  pub figure-says : (d : Imported) → d .month ≡ t → Says (checksOf (Known (Figure d)) t) (acceptance d)
+  figure-says d m = by (counts (d .double)) refl
+    where
+      by : (b : Bool) → counts (d .double) ≡ b → Says (checksOf (Known (Figure d)) t) (acceptance d)
+      by true e = rw (accepted d e) (refl & refl & ap not e & tt)
+      by false e = rw (refused-at d m e) (double-bad (Known (Figure d)) t refl refl e)
 
-pub new-says : (old new : Float) (t : ℕ) → acceptance (withMonth t old) ≡ Fine
-    → Says (checksOf (Known (Revision old new)) t) (acceptance (withMonth t new))
-new-says old new t h = by (counts old) (counts new) refl refl
-  where
-    by : (b d : Bool) → counts old ≡ b → counts new ≡ d → Says (checksOf (Known (Revision old new)) t) (acceptance (withMonth t new))
-    by false d e g = absurd (fine-refused (sym h ∙ not-accepted (withMonth t old) e))
-    by true true e g = rw (accepted (withMonth t new) g) (refl & refl & rw (e, g) refl & tt)
-    by true false e g = rw (not-accepted (withMonth t new) g) (double-bad (Known (Revision old new)) t refl refl (rw (e, g)))
+  -- of a revision the old figure is looked at, and the new one where that counts
+  pub old-says : (old new : Imported) → old .month ≡ t → {q : Refusal} → acceptance old ≡ Refused q
+      → Says (checksOf (Known (Revision old new)) t) (acceptance old)
+  old-says old new m {q} h = by (counts (old .double)) refl
+    where
+      by : (b : Bool) → counts (old .double) ≡ b → Says (checksOf (Known (Revision old new)) t) (acceptance old)
+      by true e = absurd (fine-refused (sym (accepted old e) ∙ h))
+      by false e = rw (refused-at old m e) (double-bad (Known (Revision old new)) t refl refl (rw e))
+
+  pub new-says : (old new : Imported) → old .month ≡ t → new .month ≡ t → acceptance old ≡ Fine
+      → Says (checksOf (Known (Revision old new)) t) (acceptance new)
+  new-says old new m k h = by (counts (old .double)) (counts (new .double)) refl refl
+    where
+      by : (b d : Bool) → counts (old .double) ≡ b → counts (new .double) ≡ d → Says (checksOf (Known (Revision old new)) t) (acceptance new)
+      by false d e g = absurd (fine-refused (sym h ∙ refused-at old m e))
+      by true true e g = rw (accepted new g) (refl & refl & rw (e, g) refl & tt)
+      by true false e g = rw (refused-at new k g) (double-bad (Known (Revision old new)) t refl refl (rw (e, g)))
 
 -- ---- a cell to which no check applies
 -- it is a figure or a revision, and its doubles count
 abbrev pub Takes : CellRead → Type 0
 Takes Malformed = ⊥
 Takes (Known Gap) = ⊥
-Takes (Known (Figure figure)) = counts figure ≡ true
-Takes (Known (Revision old new)) = (counts old ≡ true) × (counts new ≡ true)
+Takes (Known (Figure figure)) = counts (figure .double) ≡ true
+Takes (Known (Revision old new)) = (counts (old .double) ≡ true) × (counts (new .double) ≡ true)
 
 takes : (c : CellRead) → isMalformed c ≡ false → isGap c ≡ false → not (allCount c) ≡ false → Takes c
 takes Malformed b g d = no-true (sym b)
 takes (Known Gap) b g d = no-true (sym g)
-takes (Known (Figure figure)) b g d = not-false (counts figure) d
-takes (Known (Revision old new)) b g d = both (counts old) (counts new) (not-false (counts old && counts new) d)
+takes (Known (Figure figure)) b g d = not-false (counts (figure .double)) d
+takes (Known (Revision old new)) b g d = both (counts (old .double)) (counts (new .double)) (not-false (counts (old .double) && counts (new .double)) d)
 
 pub taken : (sheet : List ℕ) (t : ℕ) → Before 3 (cellChecks sheet t) → Takes (cellAt sheet t)
 taken sheet t h = takes (cellAt sheet t) (h .0) (h .1 .0) (h .1 .1 .0)

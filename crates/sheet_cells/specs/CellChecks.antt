@@ -25,8 +25,8 @@ isGap (Known (Revision old new)) = false
 abbrev pub allCount : CellRead → Bool
 allCount Malformed = true
 allCount (Known Gap) = true
-allCount (Known (Figure figure)) = counts figure
-allCount (Known (Revision old new)) = counts old && counts new
+allCount (Known (Figure figure)) = counts (figure .double)
+allCount (Known (Revision old new)) = counts (old .double) && counts (new .double)
 
 -- in this order; the place of each is the cell's t
 abbrev pub checksOf : CellRead → ℕ → List Check

@@ -4,7 +4,6 @@ use mathlib.Core.Path.{_≡_}
 use mathlib.Core.Bool.{cond}
 use mathlib.Core.List.{List}
 use lib.ListN.{length}
-use lib.Ieee.{Float}
 use Rattle.refusals.specs.declared.Refusal.the-variants.{BadDouble}
 use Rattle.refusals.specs.declared.Verdict.{Verdict}
 use Rattle.refusals.specs.declared.Verdict.the-variants.{Fine, Refused}
@@ -14,6 +13,9 @@ use Rattle.refusals.specs.Contracts.{Before, Stopped}
 use Rattle.desk_forms.specs.Header.{countIn}
 use Rattle.doubles.specs.Doubles.{counts}
 use Rattle.sheet_cells.specs.declared.Imported.{Imported}
+use Rattle.sheet_cells.specs.declared.Cell.the-variants.{Gap, Figure, Revision}
+use Rattle.sheet_cells.specs.declared.CellRead.{CellRead}
+use Rattle.sheet_cells.specs.declared.CellRead.the-variants.{Known, Malformed}
 use Rattle.sheet_cells.specs.Cells.{sheetLength}
 
 -- a sheet of n months has all its cells
@@ -22,11 +24,14 @@ pub record HasCells (sheet : List ℕ) (n : ℕ) : Type 0 where
   pub most : n ≤ mostMonths
   pub long : sheetLength n ≤ length sheet
 
--- METHOD 7.12: a double together with the number of its month, as it goes to acceptance, and to the slice when the sheet is accepted
-abbrev pub withMonth : ℕ → Float → Imported
-withMonth t x = record { month = t; double = x }
+-- every double of the cell is with this month
+abbrev pub OfMonth : ℕ → CellRead → Type 0
+OfMonth t Malformed = Unit
+OfMonth t (Known Gap) = Unit
+OfMonth t (Known (Figure figure)) = figure .month ≡ t
+OfMonth t (Known (Revision old new)) = (old .month ≡ t) × (new .month ≡ t)
 
--- one such double against row 14: the place that is told is its month
+-- METHOD 8.1: a double with its month, against row 14: the place that is told is its month
 unfoldable pub acceptance : Imported → Verdict
 acceptance imported = cond (counts (imported .double)) Fine (Refused (BadDouble (imported .month)))
 

@@ -3,21 +3,28 @@ use doubles::AsFigure;
 use refusals::Refusal;
 use refusals::Verdict;
 ghost use mathlib.Core.Path.{_≡_};
-ghost use Prim.Native.Nat.{_<_};
-ghost use Rattle.sheet_cells.specs.Cells.{cellAt, newest, revisedBy};
+ghost use Prim.Native.Nat.{_+_, _≤_, _<_};
+ghost use lib.ListN.{length};
+ghost use Rattle.sheet_cells.specs.Cells.{withMonth, importedAt, cellAt, newest, revisedBy};
 ghost use Rattle.sheet_cells.specs.CellChecks.{cellChecks};
-ghost use Rattle.sheet_cells.specs.Contracts.{HasCells, Says, acceptance, withMonth};
+ghost use Rattle.sheet_cells.specs.Contracts.{HasCells, OfMonth, Says, acceptance};
 
 // Bytes of the sizes, and of a cell.
 pub const SIZES: usize = 3;
 
 pub const CELL: usize = 2 * doubles::DOUBLE;
 
-// A cell, by its kind; a revision is the old figure and the new one.
+// A month's number and a double of it, together from the reading of its cell to acceptance, and to the slice when the sheet is accepted.
+pub struct Imported {
+    pub month: usize,
+    pub double: f64,
+}
+
+// A cell, by its kind; a revision is the old figure and the new one. Each double is with its month.
 pub enum Cell {
     Gap,
-    Figure(f64),
-    Revision(f64, f64),
+    Figure(Imported),
+    Revision(Imported, Imported),
 }
 
 // A cell that was read; a malformed one has an unknown kind, or an unused double with a byte that is not zero.
@@ -26,18 +33,23 @@ pub enum CellRead {
     Malformed,
 }
 
-// A month's number and a double of it, together as they go to acceptance, and to the slice when the sheet is accepted.
-pub struct Imported {
-    pub month: usize,
-    pub double: f64,
-}
-
 // The kinds.
 const GAP: u8 = 0;
 
 const FIGURE: u8 = 1;
 
 const REVISION: u8 = 2;
+
+// The double at a place of the sheet, with its month.
+fn imported_at(sheet: &[u8], month: usize, at: usize) -> Imported
+    requires { ⌜ at + 8 ≤ length (now sheet) ⌝ }
+    ensures { λ r. ⌜ r ≡ importedAt (now (sheet .entry)) month at ⌝ }
+{
+    Imported {
+        month,
+        double: doubles::double_at(sheet, at),
+    }
+}
 
 // The cell of month t.
 pub fn cell_at(sheet: &[u8], n: usize, t: usize) -> CellRead
@@ -48,15 +60,15 @@ pub fn cell_at(sheet: &[u8], n: usize, t: usize) -> CellRead
     let first_at = SIZES + n + CELL * t;
     let second_at = first_at + doubles::DOUBLE;
     if kind == REVISION {
-        let old = doubles::double_at(sheet, first_at);
-        let new = doubles::double_at(sheet, second_at);
+        let old = imported_at(sheet, t, first_at);
+        let new = imported_at(sheet, t, second_at);
         return CellRead::Known(Cell::Revision(old, new));
     }
     if !doubles::unused_at(sheet, second_at) {
         return CellRead::Malformed;
     }
     if kind == FIGURE {
-        return CellRead::Known(Cell::Figure(doubles::double_at(sheet, first_at)));
+        return CellRead::Known(Cell::Figure(imported_at(sheet, t, first_at)));
     }
     if kind == GAP {
         if doubles::unused_at(sheet, first_at) {
@@ -86,39 +98,34 @@ pub fn check_cell(sheet: &[u8], n: usize, t: usize) -> Verdict
     };
     match cell {
         Cell::Gap => Verdict::Refused(Refusal::Gap(t)),
-        Cell::Figure(double) => accept(Imported { month: t, double }),
+        Cell::Figure(figure) => accept(figure),
         Cell::Revision(old, new) => {
-            let verdict = accept(Imported {
-                month: t,
-                double: old,
-            });
+            let verdict = accept(old);
             let Verdict::Fine = verdict else {
                 return verdict;
             };
-            accept(Imported {
-                month: t,
-                double: new,
-            })
+            accept(new)
         }
     }
 }
 
-// What a cell brings in for month t: its figure, the new one of a revision. (Nothing is stored of a cell that is refused.)
+// What a cell of month t brings in: its figure, the new one of a revision. (Nothing is stored of a cell that is refused.)
 pub fn import(cell: CellRead, t: usize) -> Imported
+    requires { ⌜ OfMonth t cell ⌝ }
     ensures { λ r. ⌜ r ≡ withMonth t (newest cell) ⌝ }
 {
-    let CellRead::Known(known) = cell else {
-        return Imported {
-            month: t,
-            double: 0.0,
-        };
+    let nothing = Imported {
+        month: t,
+        double: 0.0,
     };
-    let double = match known {
-        Cell::Gap => 0.0,
+    let CellRead::Known(known) = cell else {
+        return nothing;
+    };
+    match known {
+        Cell::Gap => nothing,
         Cell::Figure(figure) => figure,
         Cell::Revision(_, new) => new,
-    };
-    Imported { month: t, double }
+    }
 }
 
 // The total with the revision of one cell more.
@@ -131,6 +138,6 @@ pub fn with_revision(total: f64, cell: CellRead) -> f64
     match known {
         Cell::Gap => total,
         Cell::Figure(_) => total,
-        Cell::Revision(old, new) => total + (new - old),
+        Cell::Revision(old, new) => total + (new.double - old.double),
     }
 }

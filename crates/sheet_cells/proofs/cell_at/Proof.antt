@@ -5,11 +5,11 @@ use mathlib.Core.Path.{_≡_, sym, ap, _∙_}
 use mathlib.Core.List.{List}
 use borrow.Author.Needs.{needs}
 use borrow.Author.Tests.{not-true, not-false}
-use lib.Ieee.{Float}
-use Rattle.doubles.specs.Doubles.{doubleAt, unusedAt}
+use Rattle.doubles.specs.Doubles.{unusedAt}
+use Rattle.sheet_cells.specs.declared.Imported.{Imported}
 use Rattle.sheet_cells.specs.declared.Cell.the-variants.{Figure, Revision}
 use Rattle.sheet_cells.specs.declared.CellRead.the-variants.{Known}
-use Rattle.sheet_cells.specs.Cells.{firstAt, secondAt}
+use Rattle.sheet_cells.specs.Cells.{importedAt, firstAt, secondAt}
 use Rattle.sheet_cells.proofs.CellLaws.{kind-byte, first-place, second-place, cell-revision, cell-figure, cell-gap, first-used, second-used, kind-unknown}
 use Rattle.sheet_cells.proofs.cell_at.Statement.{statement}
 use Rattle.sheet_cells.proofs.cell_at.Tie as tie
@@ -55,18 +55,18 @@ add-first-at-2 c = search needs
 add-second-at : tie.Need-add-second-at
 add-second-at c = search needs
 
-double-at-requires : tie.Need-double-at-requires
-double-at-requires c κs = search needs
+imported-at-requires : tie.Need-imported-at-requires
+imported-at-requires c κs = search needs
 
-double-at-requires-2 : tie.Need-double-at-requires-2
-double-at-requires-2 c κs = search needs
+imported-at-requires-2 : tie.Need-imported-at-requires-2
+imported-at-requires-2 c κs = search needs
 
 returns : tie.Need-returns
 returns c =
     let k = c .before .before .before in
     let t = from k .args .t in
-    ap (λ (x : Float). Known (Revision x (c .double-at2 .result))) (c .before .double-at .ensures ∙ ap (doubleAt (sheet (from k))) (first k))
-    ∙ ap (λ (x : Float). Known (Revision (doubleAt (sheet (from k)) (firstAt (sheet (from k)) t)) x)) (c .double-at2 .ensures ∙ ap (doubleAt (sheet (from k))) (second k))
+    ap (λ (d : Imported). Known (Revision d (c .imported-at2 .result))) (c .before .imported-at .ensures ∙ ap (importedAt (sheet (from k)) t) (first k))
+    ∙ ap (λ (d : Imported). Known (Revision (importedAt (sheet (from k)) t (firstAt (sheet (from k)) t)) d)) (c .imported-at2 .ensures ∙ ap (importedAt (sheet (from k)) t) (second k))
     ∙ sym (cell-revision (sheet (from k)) t (kind-byte (sheet (from k)) t ∙ c .before .before .if1 .taken))
 
 unused-at-requires : tie.Need-unused-at-requires
@@ -78,15 +78,15 @@ returns-2 c =
     let t = from k .args .t in
     sym (second-used (sheet (from k)) t (λ e. c .before .before .if1 .left (sym (kind-byte (sheet (from k)) t) ∙ e)) (unused (c .before) ∙ not-true _ (c .if2 .taken)))
 
-double-at-requires-3 : tie.Need-double-at-requires-3
-double-at-requires-3 c κs = search needs
+imported-at-requires-3 : tie.Need-imported-at-requires-3
+imported-at-requires-3 c κs = search needs
 
 returns-3 : tie.Need-returns-3
 returns-3 c =
     let u = c .before .before .before in
     let k = u .before .before in
     let t = from k .args .t in
-    ap (λ (x : Float). Known (Figure x)) (c .double-at3 .ensures ∙ ap (doubleAt (sheet (from k))) (first k))
+    ap (λ (d : Imported). Known (Figure d)) (c .imported-at3 .ensures ∙ ap (importedAt (sheet (from k)) t) (first k))
     ∙ sym (cell-figure (sheet (from k)) t (kind-byte (sheet (from k)) t ∙ c .before .if3 .taken) (unused u ∙ not-false _ (c .before .before .if2 .left)))
 
 unused-at-requires-2 : tie.Need-unused-at-requires-2
@@ -123,12 +123,12 @@ cell-at-spec =
     mul-first-at
     add-first-at-2
     add-second-at
-    double-at-requires
-    double-at-requires-2
+    imported-at-requires
+    imported-at-requires-2
     returns
     unused-at-requires
     returns-2
-    double-at-requires-3
+    imported-at-requires-3
     returns-3
     unused-at-requires-2
     returns-4

@@ -10,8 +10,8 @@ use Rattle.sheet_cells.specs.declared.CellRead.{CellRead}
 use Rattle.sheet_cells.specs.declared.CellRead.the-variants.{Known}
 use Rattle.sheet_cells.specs.Cells.{cellAt}
 use Rattle.sheet_cells.specs.CellChecks.{checksOf}
-use Rattle.sheet_cells.specs.Contracts.{Says}
-use Rattle.sheet_cells.proofs.CellLaws.{malformed-says, gap-says, figure-says, old-says, new-says}
+use Rattle.sheet_cells.specs.Contracts.{OfMonth, Says}
+use Rattle.sheet_cells.proofs.CellLaws.{cell-month, malformed-says, gap-says, figure-says, old-says, new-says}
 use Rattle.sheet_cells.proofs.check_cell.Statement.{statement}
 use Rattle.sheet_cells.proofs.check_cell.Tie as tie
 
@@ -29,6 +29,10 @@ known c = is (c .before .before .before) (c .before .cell .given .1)
 said : (r : tie.After-cell-at) {c : CellRead} {v w : Verdict} → cellAt (from r .args .sheet .now) (from r .args .t) ≡ c → v ≡ w → Says (checksOf c (from r .args .t)) w
     → Says (checksOf (cellAt (from r .args .sheet .now) (from r .args .t)) (from r .args .t)) v
 said r e f h = rw (e, f) h
+
+-- the cell that was read is of its month
+month : (r : tie.After-cell-at) {c : CellRead} → cellAt (from r .args .sheet .now) (from r .args .t) ≡ c → OfMonth (from r .args .t) c
+month r e = subst (OfMonth (from r .args .t)) e (cell-month (from r .args .sheet .now) (from r .args .t))
 
 cell-at-requires : tie.Need-cell-at-requires
 cell-at-requires c κs = search needs
@@ -69,7 +73,8 @@ returns-2 c =
     let f = a .before .before in
     let k = f .before .before in
     let r = k .before .before .before in
-    said r (known k ∙ ap Known (f .cell3 .given .1)) (a .accept2 .ensures) (old-says _ _ (from r .args .t) (sym (a .accept2 .ensures) ∙ c .enum-told4 .given .1))
+    let e = known k ∙ ap Known (f .cell3 .given .1) in
+    said r e (a .accept2 .ensures) (old-says _ (f .cell3 .given .0 .1 .0) (month r e .0) (sym (a .accept2 .ensures) ∙ c .enum-told4 .given .1))
 
 accept-requires-3 : tie.Need-accept-requires-3
 accept-requires-3 c κs = search needs
@@ -85,16 +90,19 @@ returns-4 c =
     let f = c .before .before in
     let k = f .before .before in
     let r = k .before .before .before in
-    said r (known k ∙ ap Known (f .cell2 .given .1)) (c .accept .ensures) (figure-says _ (from r .args .t))
+    let e = known k ∙ ap Known (f .cell2 .given .1) in
+    said r e (c .accept .ensures) (figure-says _ (month r e))
 
 returns-5 : tie.Need-returns-5
 returns-5 c =
-    let e = c .before in
-    let a = e .before .before in
+    let o = c .before in
+    let a = o .before .before in
     let f = a .before .before in
     let k = f .before .before in
     let r = k .before .before .before in
-    said r (known k ∙ ap Known (f .cell3 .given .1)) (c .accept3 .ensures) (new-says _ _ (from r .args .t) (sym (a .accept2 .ensures) ∙ e .enum-told3 .given .1))
+    let e = known k ∙ ap Known (f .cell3 .given .1) in
+    let m = month r e in
+    said r e (c .accept3 .ensures) (new-says _ _ (m .0) (m .1) (sym (a .accept2 .ensures) ∙ o .enum-told3 .given .1))
 
 pub check-cell-spec : {M : Type 1} → statement M
 check-cell-spec =

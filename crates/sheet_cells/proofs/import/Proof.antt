@@ -4,8 +4,8 @@ use mathlib.Core.Path.{sym, ap, _∙_}
 use borrow.Author.Needs.{needs}
 use Rattle.doubles.proofs.Exact.{zero-bits}
 use Rattle.sheet_cells.specs.declared.CellRead.the-variants.{Known}
-use Rattle.sheet_cells.specs.Cells.{newest}
-use Rattle.sheet_cells.specs.Contracts.{withMonth}
+use Rattle.sheet_cells.specs.Cells.{withMonth, newest}
+use Rattle.sheet_cells.proofs.CellLaws.{figure-month, new-month}
 use Rattle.sheet_cells.proofs.import.Statement.{statement}
 use Rattle.sheet_cells.proofs.import.Tie as tie
 
@@ -34,13 +34,13 @@ returns-3 : tie.Need-returns-3
 returns-3 c =
     let k = c .before in
     let w = k .before .before .before in
-    ap (withMonth _) (ap newest (sym (w .cell .given .1 ∙ ap Known (k .known .given .1))))
+    figure-month (w .before .before .pre) (w .cell .given .1 ∙ ap Known (k .known .given .1))
 
 returns-4 : tie.Need-returns-4
 returns-4 c =
     let k = c .before in
     let w = k .before .before .before in
-    ap (withMonth _) (ap newest (sym (w .cell .given .1 ∙ ap Known (k .known2 .given .1))))
+    new-month (w .before .before .pre) (w .cell .given .1 ∙ ap Known (k .known2 .given .1))
 
 pub import-spec : {M : Type 1} → statement M
 import-spec =

@@ -33,8 +33,9 @@ returns-3 c = search needs
 
 returns-4 : tie.Need-returns-4
 returns-4 c =
-    let k = c .before .before .before in
-    ap (revisedBy (k .before .before .before .args .total)) (sym (k .before .cell .given .1 ∙ ap Known (c .before .known .given .1)))
+    let r = c .before .before .before in
+    let w = r .before .before .before in
+    ap (revisedBy (w .before .before .args .total)) (sym (w .cell .given .1 ∙ ap Known (r .known .given .1)))
 
 pub with-revision-spec : {M : Type 1} → statement M
 with-revision-spec =

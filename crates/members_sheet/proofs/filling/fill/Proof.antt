@@ -15,9 +15,9 @@ use Rattle.integers.proofs.FillingLaws.{filled-none, filled-more, filled-front}
 use Rattle.doubles.specs.Doubles.{numberIn, counts}
 use Rattle.doubles.proofs.Exact.{zero-bits}
 use Rattle.sheet_cells.specs.declared.Imported.{Imported}
-use Rattle.sheet_cells.specs.Cells.{cellAt, newest, revisedBy}
-use Rattle.sheet_cells.specs.Contracts.{withMonth}
-use Rattle.sheet_cells.proofs.CellLaws.{taken, newest-counts}
+use Rattle.sheet_cells.specs.Cells.{withMonth, cellAt, newest, revisedBy}
+use Rattle.sheet_cells.specs.Contracts.{OfMonth}
+use Rattle.sheet_cells.proofs.CellLaws.{cell-month, taken, newest-counts}
 use Rattle.members_sheet.specs.Series.{figuresIn, summed}
 use Rattle.members_sheet.proofs.Sums.{summed-more}
 use Rattle.members_sheet.proofs.filling.fill.Statement.{statement}
@@ -49,7 +49,7 @@ cell-at-requires : tie.Need-cell-at-requires Inv-loop μ-loop
 cell-at-requires c κs = (c .before .before .before .pre .0, omega arith)
 
 import-requires : tie.Need-import-requires Inv-loop μ-loop
-import-requires c κs = search needs
+import-requires c κs = let l = c .before .before in subst (OfMonth (l .loop .t)) (sym (c .cell-at .ensures)) (cell-month (l .before .before .args .sheet .now) (l .loop .t))
 
 number-of-requires : tie.Need-number-of-requires Inv-loop μ-loop
 number-of-requires c κs =
