@@ -1,4 +1,5 @@
--- Laws of the filters.
+-- Laws of the filters; Sides shows that no place is short on both sides.
+pub mod Sides
 pub mod Light
 pub mod Distances
 pub mod WeightedMeans

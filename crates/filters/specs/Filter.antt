@@ -30,8 +30,8 @@ exactByRow F L b a x t = pos (L / denominator F (rowFor F b a)) *ℤ weightedSum
 
 -- METHOD 2.1 and 2.3: of values that stand at the months from `first` to below `past` and nowhere else, how many precede month t and how many follow
 -- it, one step apart, as far as a row can take them. A place of 3×9 may be short on both sides: it has a row for each pair of counts. No other filter
--- has such a place: of a run of six values, which 72 months give, each has three on one side, enough for 3×5; SI1 has runs of five at least, whose
--- places have two on one side, enough for 3×3; Henderson's 23 terms ask for 22 months
+-- has such a place (Sides, NoPlaceShort): of a run of six values, which 72 months give, each has three on one side, enough for 3×5; SI1 has runs of
+-- five at least, whose places have two on one side, enough for 3×3; Henderson's 23 terms ask for 22 months
 unfoldable pub earlier : Table → ℕ → ℕ → ℕ
 earlier F first t = min ((t - first) / F .step) (F .side)
 
