@@ -34,9 +34,12 @@ pub record WorkedExamples : Type 0 where
   pub three-nearest : neighboursIn 0 (0 ∷ 1000 ∷ 500 ∷ 1000 ∷ 1000 ∷ 1000 ∷ []) ≡ january 1 ∷ january 3 ∷ january 4 ∷ []
   pub equally-near : neighboursIn 3 (1000 ∷ 0 ∷ 0 ∷ 0 ∷ 1000 ∷ 1000 ∷ 1000 ∷ []) ≡ january 4 ∷ january 5 ∷ january 0 ∷ []
   pub all-there-are : neighboursIn 5 (0 ∷ 0 ∷ 0 ∷ 0 ∷ 1000 ∷ 0 ∷ []) ≡ january 4 ∷ []
-  -- METHOD 3.9: a value of weight 0, one of weight 500, one whose mean, 250.5, lies on a half, and two without neighbours
+  -- METHOD 3.9: a value of weight 0, one of weight 500, one of weight 999, which is still replaced, and one of weight 1,000, which stays; one whose mean,
+  -- 250.5, lies on a half; and two without neighbours
   pub weight-0 : thirdReplaced (1000 ∷ 1000 ∷ 0 ∷ 1000 ∷ 1000 ∷ []) ≡ pos 250
   pub weight-500 : thirdReplaced (1000 ∷ 1000 ∷ 500 ∷ 1000 ∷ 1000 ∷ []) ≡ negℤ (pos 5333)
+  pub weight-999 : thirdReplaced (1000 ∷ 1000 ∷ 999 ∷ 1000 ∷ 1000 ∷ []) ≡ negℤ (pos 9792)
+  pub weight-1000 : thirdReplaced (1000 ∷ 1000 ∷ 1000 ∷ 1000 ∷ 1000 ∷ []) ≡ negℤ (pos 50_000)
   pub on-a-half : thirdReplaced (1000 ∷ 999 ∷ 0 ∷ 999 ∷ 1000 ∷ []) ≡ pos 250
   pub no-neighbours : thirdReplaced (999 ∷ 999 ∷ 0 ∷ 999 ∷ 999 ∷ []) ≡ negℤ (pos 50_000)
   pub none-at-500 : thirdReplaced (999 ∷ 999 ∷ 500 ∷ 999 ∷ 999 ∷ []) ≡ negℤ (pos 50_000)
