@@ -16,7 +16,7 @@ use Rattle.integers.proofs.RoundingLaws.{toGrain-size}
 use Rattle.integers.proofs.FillingLaws.{length-tab, tab-each}
 use Rattle.refusals.specs.Limits.{fullWeight}
 use Rattle.extremes.specs.Spreads.{sizesOf}
-use Rattle.extremes.specs.Weighing.{weight, weightBy, monthWeight, weightsBy, weightsOf, correctionOf}
+use Rattle.extremes.specs.Weighing.{weight, weightBy, monthWeight, weightsBy, weightsOf, NoneAboveFull, correctionOf}
 use Rattle.extremes.proofs.HeldSizes.{length-sizesOf}
 
 -- ---- a weight is at most 1,000
@@ -49,7 +49,7 @@ pub length-weights : (start period : ℕ) (x : List ℤ) → length (weightsOf s
 unfolding weightsOf weightsBy
 length-weights start period x = length-tab _ (monthWeight start period (sizesOf x)) ∙ length-sizesOf x
 
-pub weights-most : (start period : ℕ) (x : List ℤ) (t : ℕ) → getD (weightsOf start period x) t 0 ≤ fullWeight
+pub weights-most : NoneAboveFull
 unfolding weightsOf weightsBy monthWeight weightBy
 weights-most start period x = tab-each (λ (w : ℕ). w ≤ fullWeight) 0 (length (sizesOf x)) (monthWeight start period (sizesOf x)) (omega arith) (λ t. weight-most _ _)
 

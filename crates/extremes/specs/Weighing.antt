@@ -1,5 +1,5 @@
 -- METHOD 5.6: the weights; 5.7: the correction.
-use Prim.Native.Nat.{ℕ, _*_, _-_}
+use Prim.Native.Nat.{ℕ, _*_, _-_, _≤_}
 use mathlib.Core.Bool.{cond}
 use mathlib.Core.List.{List}
 use lib.Dec.{ltb, eqb}
@@ -37,6 +37,10 @@ module _ (start period : ℕ) where
   -- METHOD 3.8, 4.1 and 4.2: the weights of an irregular
   unfoldable pub weightsOf : List ℤ → List ℕ
   weightsOf x = weightsBy (sizesOf x)
+
+-- METHOD 1.5 and 5.6: no weight is above 1,000, for every start month, number of months in a year and irregular (shown in proofs/WeighingLaws.antt)
+abbrev pub NoneAboveFull : Type 0
+NoneAboveFull = (start period : ℕ) (irregular : List ℤ) (t : ℕ) → getD (weightsOf start period irregular) t 0 ≤ fullWeight
 
 -- METHOD 5.7: the correction of a month: its irregular z times (1,000 less its weight w), over 1,000, rounded to a grain
 unfoldable pub correctionOf : ℤ → ℕ → ℤ
