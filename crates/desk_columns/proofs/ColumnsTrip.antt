@@ -1,4 +1,4 @@
--- METHOD 7.9, the theorems on the desk file by calendar month and on moving. They speak of the promises that the four entry points keep.
+-- METHOD 7.7 and 7.9, the theorems on the desk file by calendar month and on moving. They speak of the promises that the four entry points keep.
 use Prim.Native.Nat.{ℕ, min}
 use mathlib.Core.Path.{_≡_, sym, ap, subst, _∙_}
 use mathlib.Core.List.{List, _++_}
@@ -6,6 +6,7 @@ use native.Mathlib.Omega.{arith}
 use borrow.Author.Tests.{le-ltb}
 use lib.ListN.{length, take, drop}
 use lib.Seq.{take-at}
+use Rattle.refusals.specs.Limits.{earliestYear}
 use Rattle.refusals.specs.Sheet.{success}
 use Rattle.little_endian.specs.Bytes.{AreBytes}
 use Rattle.desk_forms.specs.declared.Form.the-variants.{Plain, Columns}
@@ -13,14 +14,16 @@ use Rattle.desk_forms.specs.Header.{SeriesWithWeights, series, countIn}
 use Rattle.desk_forms.specs.File.{fileLength, fileBytes, seriesIn}
 use Rattle.desk_forms.specs.ColumnsFile.{columnsLength, columnsBytes, firstYearIn, seriesInColumns}
 use Rattle.desk_forms.proofs.FormLaws.{meaning-whole, meaning-months}
+use Rattle.desk_forms.proofs.FileLaws.{six-and-six}
 use Rattle.desk_forms.proofs.Decoding.{meaning-back, year-back}
 use Rattle.desk_checks.specs.Checked.{FileFits}
 use Rattle.desk_checks.proofs.CheckedLaws.{SeriesFits, sized, file-fits, series-fits, fits-series}
 use Rattle.desk_checks.proofs.Again.{written-count, written-start, written-year, written-meaning, written-length, written-fits, same-file}
+use Rattle.desk_file.proofs.Answers as plain
 use Rattle.desk_columns.specs.ReadColumns.{Dated, dated, readColumnsAnswer, ReadColumnsDone}
 use Rattle.desk_columns.specs.WriteColumns.{writeColumnsAnswer, WriteColumnsDone}
 use Rattle.desk_columns.specs.Moving.{forwardAnswer, MovedForward, sizeAndYear, backAnswer, MovedBack}
-use Rattle.desk_columns.specs.ColumnsTrips.{OneColumnsFile, SameColumnsBytes, ColumnsReadBack, ColumnsWriteBack, ForwardBack, BackForward}
+use Rattle.desk_columns.specs.ColumnsTrips.{OneColumnsFile, SameColumnsBytes, ColumnsReadBack, ColumnsWriteBack, ForwardBack, BackForward, ColumnsAcceptedToo}
 use Rattle.desk_columns.proofs.Answers.{short, read-accepts, read-accepted, write-accepts, write-accepted, short-forward, forward-accepts, forward-accepted, short-back, back-accepts, back-accepted}
 
 -- the bytes of what an accepted byte string means are that byte string
@@ -128,3 +131,19 @@ back-forward file back₀ back q k year out₀ out r b d ha room e =
     let answer : forwardAnswer moved year (length out₀) ≡ success (length file) =
     sym (rw (← size) (forward-accepts moved year (length out₀) (written-fits w Plain (short-forward moved year (length out₀)) enough))) in
     record { answer = e′ .answer ∙ answer; outLeft = rw (answer, written-meaning w Plain, same) at (e′ .outLeft) }
+
+-- ---- writing in either form
+-- what `write` accepts, `write_columns` accepts, from a first year inside the limits
+pub columns-accepted-too : ColumnsAcceptedToo
+columns-accepted-too s plainRoom k year room e y l =
+    let v = series-fits Plain earliestYear s plainRoom (plain.write-accepted s plainRoom e .0) in
+    let w : SeriesFits year s = record {
+      least = v .least;
+      most = v .most;
+      inside = v .inside;
+      same = v .same;
+      years = y;
+      figuresFit = v .figuresFit;
+      weightsFit = v .weightsFit;
+    } in
+    sym (write-accepts year s room (fits-series Columns year s room w (omega (arith, six-and-six (length (s .figures)))))) ∙ ap success (six-and-six (length (s .figures)))

@@ -1,24 +1,26 @@
--- METHOD 7.9: the theorems on the desk file by calendar month and on moving, whole; the names in brackets are those of their proofs, in
+-- METHOD 7.7 and 7.9: the theorems on the desk file by calendar month and on moving, whole; the names in brackets are those of their proofs, in
 -- proofs/ColumnsTrip.antt. Those on reading, writing and moving speak of what the four entry points promise; every lent slice of bytes is a byte string,
 -- `AreBytes` (the contract of little_endian::are_bytes).
-use Prim.Native.Nat.{ℕ, _^_, _≤_, _<_}
+use Prim.Native.Nat.{ℕ, _+_, _*_, _^_, _≤_, _<_}
 use mathlib.Core.Path.{_≡_}
+use mathlib.Core.Bool.{true}
 use mathlib.Core.List.{List, _++_}
 use lib.IntN.{ℤ}
 use lib.ListN.{length, take, drop}
 use Rattle.refusals.specs.Limits.{monthsOfYear}
+use Rattle.refusals.specs.Inside.{yearsInside}
 use Rattle.refusals.specs.Sheet.{success}
 use Rattle.little_endian.specs.Bytes.{AreBytes}
 use Rattle.chart.specs.Chart.{Starts}
 use Rattle.desk_forms.specs.Header.{SeriesWithWeights, series, Storable}
 use Rattle.desk_forms.specs.ColumnsFile.{columnsBytes, firstYearIn, seriesInColumns}
 use Rattle.desk_file.specs.declared.Writing.{Writing}
-use Rattle.desk_file.specs.WriteFile.{writeSays}
+use Rattle.desk_file.specs.WriteFile.{writeSays, writeAnswer}
 use Rattle.desk_file.specs.RoundTrips.{WrittenAgain}
 use Rattle.desk_columns.specs.declared.ColumnsReading.{ColumnsReading}
 use Rattle.desk_columns.specs.declared.MovingBack.{MovingBack}
 use Rattle.desk_columns.specs.ReadColumns.{Dated, dated, readColumnsSays, readColumnsAnswer, ReadColumnsDone}
-use Rattle.desk_columns.specs.WriteColumns.{WriteColumnsDone}
+use Rattle.desk_columns.specs.WriteColumns.{writeColumnsAnswer, WriteColumnsDone}
 use Rattle.desk_columns.specs.Moving.{MovedForward, sizeAndYear, backSays, MovedBack}
 
 -- what the fields of a file by calendar month can hold, beside those of a plain one: a first year of 2 bytes; and the start month is 1 to 12
@@ -95,3 +97,12 @@ BackForward = (file : List ℕ) (back₀ back : List ℕ) (q : MovingBack) (k ye
     → length file ≤ length out₀
     → MovedForward (take k back) year out₀ r out
     → WrittenAgain file out₀ r out
+
+-- what `write` accepts, whatever its output, `write_columns` accepts too, from every first year that is inside the limits with that of the last month
+-- (row 11), into an output with room for it: the answer is its length, 6 + 6n (columns-accepted-too)
+abbrev pub ColumnsAcceptedToo : Type 0
+ColumnsAcceptedToo = (s : SeriesWithWeights) (plainRoom k year room : ℕ)
+    → writeAnswer s plainRoom ≡ success k
+    → yearsInside year (s .start) (length (s .figures)) ≡ true
+    → 6 + 6 * length (s .figures) ≤ room
+    → writeColumnsAnswer year s room ≡ success (6 + 6 * length (s .figures))
