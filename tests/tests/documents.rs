@@ -1,20 +1,22 @@
 //! What the documents show, beside the separately written program and the repository: README's sample and its members' sheet, METHOD's rows
-//! and those that are stored, the runs of its part 3.9, its flooded January, its lengths of the final trend, its seasonal filters, its month
-//! order, its members' sheets, its lengths of the scratch and its group that stays whole, the refusal sheets of README, METHOD and the header,
-//! the wrong programs that CONTRACTS names.
+//! and those that are stored, the runs and means of its part 3.9, its flooded January, its lengths of the final trend, its seasonal filters, its
+//! weights by years, its month order, its members' sheets, its lengths of the scratch and its group that stays whole, the refusal sheets of
+//! README, METHOD and the header, the wrong programs that CONTRACTS names.
 
+use separate::calendar::labels;
 use separate::columns::{by_month, last_year};
 use separate::decompose::{decompose_fitting, scratch_for, ROWS};
 use separate::desk::bytes_of;
-use separate::extremes::{neighbours, RunValue};
+use separate::extremes::{neighbours, replacement, RunValue};
 use separate::generators::book_series;
 use separate::noise::Noise;
 use separate::pass::pass;
 use separate::print::printed;
+use separate::rounding::nearest_even;
 use separate::rows::{henderson_at, henderson_rows, three_by_five, three_by_nine, three_by_three, HendersonRows, ThreeByFive, ThreeByNine, LENGTHS};
 use separate::seasonality::{chosen, questions};
 use separate::sheet::{self, length_of, read_sheet, whole_in, Cell};
-use separate::spread::two_spreads;
+use separate::spread::{two_spreads, weights};
 use std::fs;
 use std::path::{Path, PathBuf};
 
@@ -133,6 +135,21 @@ fn method_has_the_neighbours_of_its_runs() {
     }
 }
 
+/// The means of METHOD 3.9: a value between four neighbours, by its weight; of weight 1,000 it stays.
+#[test]
+fn method_has_means_by_weight() {
+    let method = without_commas(&document("docs/METHOD.md"));
+    let sentence = between(&method, "With neighbours 100, 200, 300 and 401, a value of -50000 ", ". With");
+    let shown = sentence.split("; ").map(|part| (numbers(between(part, "of weight ", " "))[0], *numbers(part).last().expect("a mean")));
+    let worked = [0u16, 500, 999, 1000].map(|weight| {
+        let values = [100, 200, -50_000, 300, 401].into_iter().enumerate();
+        let run: Vec<RunValue> = values.map(|(year, value)| RunValue { year, value, weight: if year == 2 { weight } else { 1000 } }).collect();
+        let (upper, lower) = replacement(&run, 2).mean;
+        (i128::from(weight), i128::from(nearest_even(upper, lower)))
+    });
+    assert_eq!(shown.collect::<Vec<_>>(), worked);
+}
+
 #[test]
 fn method_has_the_flooded_january() {
     let method = document("docs/METHOD.md");
@@ -220,6 +237,22 @@ fn method_has_a_series_chosen_by_pass_c() {
     assert_eq!(by(&tables.b13, &tables.b7, &tables.b10), (13, ThreeByFive));
     assert_eq!(by(&tables.c13, &tables.c7, &tables.c10), (9, ThreeByNine));
     assert_eq!(by(&d13, d7, d10), (13, ThreeByNine));
+}
+
+/// The weights of that series tenfold, and those that B13 and C13 would have by the years from January.
+#[test]
+fn method_has_weights_by_the_years_from_july() {
+    let tables = decompose_fitting(&(0..72).map(|t| 10 * rippled(t)).collect::<Vec<i32>>(), 7).expect("tables");
+    let method = document("docs/METHOD.md");
+    let part = between(&method, "ten times as large", "\n## 5");
+    let months: Vec<usize> = cells(part, "t").iter().map(|t| t.parse().expect("a month")).collect();
+    assert_eq!(months, [7, 19, 31, 43, 55, 67]);
+    let at = |months: &[usize], weights: &[u16]| months.iter().map(|&t| i128::from(weights[t])).collect::<Vec<i128>>();
+    assert_eq!(numbers(&cells(part, "B17").join(" ")), at(&months, &tables.b17));
+    assert_eq!(numbers(&cells(part, "C17").join(" ")), at(&months, &tables.c17));
+    let from_january = |irregular: &[i64]| at(&months[3..], &weights(irregular, &labels(1, 72)));
+    assert_eq!(numbers(between(part, "B13 would give the last three ", ", and C13 ")), from_january(&tables.b13));
+    assert_eq!(numbers(between(part, ", and C13 ", ".")), from_january(&tables.c13));
 }
 
 #[test]

@@ -1,5 +1,5 @@
--- METHOD 4.4: a flooded January, worked through pass B; METHOD 4.5 and 4.6: the final trend's length and the final seasonal filter of a series (shown
--- in proofs/Examples.antt). The numbers are those of the separately written program.
+-- METHOD 4.4: a flooded January, worked through pass B; METHOD 4.5 and 4.6: the final trend's length and the final seasonal filter of a series, and
+-- B17 and C17 of it tenfold (shown in proofs/Examples.antt). The numbers are those of the separately written program.
 use mathlib.Core.Path.{_≡_}
 use mathlib.Core.Bool.{cond}
 use mathlib.Core.List.{List, [], _∷_, map}
@@ -9,10 +9,11 @@ use lib.ListN.{getD}
 use lib.IntN.{ℤ, pos, negℤ}
 use Rattle.integers.specs.Lists.{tab}
 use Rattle.refusals.specs.Limits.{monthsOfYear}
+use Rattle.series.specs.Operations.{times}
 use Rattle.steps.specs.Choices.{plainMonthly}
 use Rattle.steps.specs.Steps.{S2}
 use Rattle.tables.specs.PassB.{weightsB4, weightsB9}
-use Rattle.tables.specs.Tables.{B1, B10, D12}
+use Rattle.tables.specs.Tables.{B1, B10, B17, C17, D12}
 
 -- METHOD 4.4: 72 figures from start month 7, each 1,000 and the remainder of t times t by 17; but 500 at t = 18, the second January
 unfoldable pub flooded : List ℤ
@@ -39,3 +40,9 @@ rippled = tab 72 (λ t. pos (1000 + 12 * t + (2 * t * t + 13 * t) % 49))
 -- choices
 pub record ChosenByPassC : Type 0 where
   pub trend : yearByYear (pos 0) 6 6 (D12 7 rippled) ≡ map pos (1_096_732 ∷ 1_237_598 ∷ 1_375_082 ∷ 1_530_792 ∷ 1_678_021 ∷ 1_819_587 ∷ [])
+
+-- METHOD 4.6: every figure of this series ten times as large. What the Februaries get in B17 and C17, t = 7, 19, .., 67: B13 and C13 are weighed from
+-- start month 7, and by the years and groups from month 1 the last three would get other weights
+pub record WeighedFromJuly : Type 0 where
+  pub b17 : yearByYear 0 7 6 (B17 7 (times 10 rippled)) ≡ 1000 ∷ 1000 ∷ 1000 ∷ 905 ∷ 512 ∷ 750 ∷ []
+  pub c17 : yearByYear 0 7 6 (C17 7 (times 10 rippled)) ≡ 1000 ∷ 1000 ∷ 1000 ∷ 805 ∷ 37 ∷ 402 ∷ []
