@@ -1,6 +1,7 @@
 -- METHOD 7.7 to 7.9, the desk file by calendar month: what reading and writing it promise (ReadColumns, WriteColumns), what moving promises (Moving),
--- and the theorems on them together (ColumnsTrips).
+-- the theorems on them together (ColumnsTrips), and examples (Examples).
 pub mod ReadColumns
 pub mod WriteColumns
 pub mod Moving
 pub mod ColumnsTrips
+pub mod Examples
