@@ -1,5 +1,7 @@
 //! The text of the printing program, separately written; `printer.rs` has the built program beside it.
 
+mod stored;
+
 use separate::decompose::decompose_fitting;
 use separate::desk::bytes_of;
 use separate::print::printed;
@@ -57,4 +59,19 @@ fn refusals_are_one_line() {
     assert_eq!(printed(&bytes_of(&[0; 72], 12, 12, &weights)), "refused 10 5\n");
     let whole = bytes_of(&[0; 72], 12, 12, &[0; 72]);
     assert_eq!(printed(&whole[..435]), "refused 9 0\n");
+}
+
+/// The text stored for the stored cases, with which `rt check cases` compares what the built program prints, is this program's.
+#[test]
+fn stored_cases_have_this_text() {
+    let [names, stored] = ["args", "stdout"].map(|file| String::from_utf8(stored::bytes(file)).expect("text"));
+    let mut expected = String::new();
+    for name in names.lines() {
+        expected.push_str(&format!("{name}\n{}", printed(&stored::bytes(&format!("data/{name}")))));
+    }
+    // Line by line, so that a failure shows the first line that differs and not both texts.
+    for (index, (line, ours)) in stored.lines().zip(expected.lines()).enumerate() {
+        assert_eq!(line, ours, "line {}", index + 1);
+    }
+    assert!(stored == expected, "one text is longer");
 }
