@@ -1,6 +1,8 @@
 //! The seasonal filter of pass D (request 6/12 of document 02): the rows of 3×9 from what the paper asks of them, the choice with years set
 //! aside, the series made for each answer and for the bounds, a second working of D10, and rules that a clerk might take for the right one.
 
+mod stored;
+
 use separate::calendar::labels;
 use separate::decompose::{decompose_fitting, Tables};
 use separate::exact::{distance, exact_working};
@@ -707,6 +709,25 @@ fn other_rules_give_other_tables() {
         let others: Vec<&str> = list.iter().filter(|(case, t)| gets_others(case, t)).map(|(case, _)| case.name.as_str()).collect();
         println!("{name}: {} series, first {:?}", others.len(), others.first());
         assert!(!others.is_empty(), "{name}");
+    }
+}
+
+/// The stored cases of printing on a bound: the sums of a question meet it exactly, and D10 would be another one if they were answered
+/// otherwise there.
+#[test]
+fn stored_cases_show_what_holds_on_a_bound() {
+    let rules: BTreeMap<&str, Rule> = other_choices().into_iter().collect();
+    for (name, what, otherwise) in [
+        ("at_two_and_a_half", "2I=5S at 1", "2.5 takes 3×3"),
+        ("at_three_and_a_half", "2I=7S at 1", "3.5 takes 3×5"),
+        ("at_five_and_a_half", "2I=11S at 1", "5.5 takes 3×5"),
+        ("at_six_and_a_half", "2I=13S at 1", "6.5 is left open"),
+    ] {
+        let case = stored::series(name);
+        let tables = worked(&case);
+        assert!(place_by_questions(&tables).contains(&what.to_string()), "{name} {what} {:?}", tables.questions);
+        let (d10, _) = rules[otherwise](&case, &tables);
+        assert_ne!(d10, tables.d10, "{name}, where {otherwise}");
     }
 }
 

@@ -1,6 +1,8 @@
 //! The length of the final trend (request 3/12 of document 02): the rows of 9, 13 and 23 terms from what they are made to do, the choice,
 //! the series made for each length and for the bounds, a second working of D12, and rules that a clerk might take for the right one.
 
+mod stored;
+
 use separate::decompose::{decompose_fitting, Tables};
 use separate::exact::{distance, exact_working};
 use separate::fraction::Fraction;
@@ -478,6 +480,20 @@ fn other_rules_give_other_tables() {
         let others: Vec<&str> = list.iter().filter(|(_, t)| gets_others(t)).map(|(case, _)| case.as_str()).collect();
         println!("{name}: {} series, first {:?}", others.len(), others.first());
         assert!(!others.is_empty(), "{name}");
+    }
+}
+
+/// The stored cases of printing on a bound: the sums meet it exactly, and D12 would be another one if they chose otherwise there.
+#[test]
+fn stored_cases_show_what_holds_on_a_bound() {
+    let rules: BTreeMap<&str, Rule> = other_rules().into_iter().collect();
+    for (name, what, otherwise) in
+        [("as_rough_as_the_trend", "I=C", "I equal to C takes 9"), ("three_and_a_half_times", "2I=7C", "3.5 takes 13")]
+    {
+        let tables = worked(&stored::series(name));
+        assert!(place_by_bounds(&tables).contains(&what.to_string()), "{name} {what} {:?}", tables.noise);
+        let (_, d12) = rules[otherwise](&tables);
+        assert_ne!(d12, tables.d12, "{name}, where {otherwise}");
     }
 }
 
