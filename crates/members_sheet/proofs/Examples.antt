@@ -22,7 +22,7 @@ cell-rows = record { kind-3 = refl; gap-at-71 = refl; old-figure = refl; new-fig
 
 pub first-bad-cell : FirstBadCell
 unfolding startInside figureInside numberAt countIn startIn ofBits doubleAt unusedAt isWhole numberIn counts importedAt kindAt firstAt secondAt cellAt cellsFrom sheetAnswer
-first-bad-cell = record { gap-then-unknown = refl; double-then-unknown = refl; double-then-gap = refl }
+first-bad-cell = record { unknown-first = refl; gap-first = refl; double-first = refl }
 
 pub revised-sheet : RevisedSheet
 unfolding tabFrom tab sumZ startInside figureInside numberAt countIn startIn ofBits doubleAt unusedAt isWhole numberIn counts importedAt kindAt firstAt secondAt cellAt cellsFrom figuresIn revisionOfFirst totalRevision sheetAnswer
