@@ -4,14 +4,15 @@ use mathlib.Core.Bool.{Bool, true, false, not, cond}
 use Prim.Native.Nat.{ℕ, zero, suc, _+_, _*_, _-_, _/_, _%_, _<_, _≤_}
 use native.Mathlib.Nat.{add-zero, div-add-mod, mod-lt, le-of-mul-le-mul-left}
 use native.Mathlib.Omega.{arith}
-use lib.Dec.{T, ltb, ltb→lt, nltb→le}
+use lib.Dec.{T, ltb, leb, ltb→lt, nltb→le, leb→le, nleb→lt}
 use lib.IntN.{ℤ, pos, negsuc, negℤ, natAbs, _+ℤ_, _-ℤ_, _*ℤ_, +ℤ-negℤ-cancel}
 use lib.Signed.{quotZ, ltZ, _<ℤ_, _≤ℤ_, ltZ-yes, ltZ-no}
+use mir.Val.{boolByte}
 use Rattle.integers.proofs.Differences.{_⊖_, pp, nn, ⊖-eq, rep, ringℤ}
 use Rattle.integers.specs.Sizes.{_within_}
 use Rattle.integers.proofs.SizeLaws.{by-abs, abs-⊖, abs-neg, abs-mul, w-lit, w+, w-, w*}
 use Rattle.integers.specs.Rounding.{halfUp, awayFromZero, halfToEven, toGrain, NearestEven, ToGrainSettled}
-use Rattle.integers.specs.Contracts.{farther, Below}
+use Rattle.integers.specs.Contracts.{farther}
 
 -- ---- the nearest whole number
 halfUp-low : (n d : ℕ) → 2 * (d * halfUp n d) ≤ 2 * n + d
@@ -48,7 +49,7 @@ one-more b d rest l h e = record { near = omega (arith, apart); even = λ t. e (
     apart = rw (rep b) (simp (ringℤ, abs-⊖) (omega arith))
 
 -- whether a number is odd is one bit, and the number after an odd one is even
-pub bit-most : (n : ℕ) → n % 2 < 2
+bit-most : (n : ℕ) → n % 2 < 2
 bit-most n = mod-lt n {m = 2} (omega arith)
 
 odd-next : (b : ℤ) → natAbs b % 2 ≡ 1 → natAbs (b +ℤ pos 1) % 2 ≡ 0
@@ -142,31 +143,36 @@ awayFromZero-size x d c h k = by-abs (near-size (awayFromZero x d) x d c h (away
 pub toGrain-size : (x : ℤ) (d c : ℕ) → 0 < d → natAbs x ≤ d * c → toGrain x d within c
 toGrain-size x d c h k = by-abs (near-size (toGrain x d) x d c h (toGrain-near x d h) k)
 
--- ---- as the code works `to_grain`: the whole part below, and whether one more is nearer
+-- ---- as the code works `to_grain`: a number that is raised is not below zero
 pub raised-is : (x : ℤ) (k : ℕ) → natAbs x ≤ k → x +ℤ pos k ≡ pos (natAbs (x +ℤ pos k))
 raised-is x k h = subst⁻¹ (λ (z : ℤ). natAbs z ≤ k → z +ℤ pos k ≡ pos (natAbs (z +ℤ pos k))) (rep x) (go (pp x) (nn x)) h
   where
     go : (a b : ℕ) → natAbs (a ⊖ b) ≤ k → a ⊖ b +ℤ pos k ≡ pos (natAbs (a ⊖ b +ℤ pos k))
     go a b h = simp (ringℤ, abs-⊖) (omega (arith, h, abs-⊖ a b))
 
-pub whole-part : (x : ℤ) (k d n : ℕ) → 0 < d → x +ℤ pos (k * d) ≡ pos n → Below x d (pos (n / d) -ℤ pos k)
-whole-part x k d n h e = record { rest = n % d; less = mod-lt n {m = d} h; is = sym (+ℤ-negℤ-cancel x (pos (k * d))) ∙ ap (λ (z : ℤ). z -ℤ pos (k * d)) e ∙ split }
+-- by pairs of grains: x is raised by m pairs to n; n, d and h together are p pairs and a rest, where 2 h is the even number just below d. The even
+-- grain of a pair is the number, or the odd one before it where the rest is at most 2 h: then the distance is less than a half
+pub by-pairs : (x : ℤ) (d m n h p rest : ℕ) → x +ℤ pos (m * (2 * d)) ≡ pos n → n + (d + h) ≡ 2 * d * p + rest → rest < 2 * d → 2 * h < d → d ≤ 2 * h + 2
+    → pos 2 *ℤ (pos p -ℤ pos m) -ℤ pos (boolByte (leb rest (2 * h))) ≡ toGrain x d
+by-pairs x d m n h p rest e f less below above = go (leb rest (2 * h)) (λ t. leb→le rest (2 * h) t) (λ t. nleb→lt rest (2 * h) t)
   where
-    split : pos n -ℤ pos (k * d) ≡ pos d *ℤ (pos (n / d) -ℤ pos k) +ℤ pos (n % d)
-    split = simp ringℤ (omega (arith, div-add-mod n d))
+    x-is : pos n -ℤ pos (m * (2 * d)) ≡ x
+    x-is = sym (ap (λ (z : ℤ). z -ℤ pos (m * (2 * d))) e) ∙ +ℤ-negℤ-cancel x (pos (m * (2 * d)))
 
--- its multiple is the numerator less the rest
-pub multiple-is : {x b : ℤ} {d : ℕ} (h : Below x d b) → b *ℤ pos d ≡ x -ℤ pos (h .rest)
-multiple-is {x} {b} {d} h = subst⁻¹ (λ (z : ℤ). b *ℤ pos d ≡ z -ℤ pos (h .rest)) (h .is) (rw (rep b) (simp ringℤ (omega arith)))
+    settles : (r : ℤ) → NearestEven (pos n -ℤ pos (m * (2 * d))) d r → r ≡ toGrain x d
+    settles r k = toGrain-settled x d (omega arith) .no-other r (subst (λ (z : ℤ). NearestEven z d r) x-is k)
 
-pub stays-is : {x b : ℤ} {d : ℕ} (h : Below x d b) → 2 * h .rest + natAbs b % 2 ≤ d → b ≡ toGrain x d
-stays-is {x} {b} {d} h k = toGrain-settled x d (omega (arith, h .less)) .no-other b
-    (subst (λ (z : ℤ). NearestEven z d b) (sym (h .is)) (stays b d (h .rest) (omega arith) (λ t. omega arith)))
-
-pub one-more-is : {x b : ℤ} {d : ℕ} (h : Below x d b) → d < 2 * h .rest + natAbs b % 2 → b +ℤ pos 1 ≡ toGrain x d
-one-more-is {x} {b} {d} h k = toGrain-settled x d (omega (arith, h .less)) .no-other (b +ℤ pos 1)
-    (subst (λ (z : ℤ). NearestEven z d (b +ℤ pos 1)) (sym (h .is))
-    (one-more b d (h .rest) (omega (arith, h .less)) (omega (arith, bit-most (natAbs b))) (λ t. odd-next b (omega (arith, bit-most (natAbs b))))))
+    go : (b : Bool) → (T b → rest ≤ 2 * h) → (T (not b) → 2 * h < rest) → pos 2 *ℤ (pos p -ℤ pos m) -ℤ pos (boolByte b) ≡ toGrain x d
+    go true t g =
+        let l : rest ≤ 2 * h = t tt in
+        let apart : natAbs (pos d *ℤ (pos 2 *ℤ (pos p -ℤ pos m) -ℤ pos 1) -ℤ (pos n -ℤ pos (m * (2 * d)))) ≡ (h - rest) + (rest - h) = simp (ringℤ, abs-⊖) (omega (arith, f)) in
+        settles _ (record { near = omega (arith, apart); even = λ q. absurd (omega (arith, apart, q)) })
+    go false t g =
+        let l : 2 * h < rest = g tt in
+        let apart : natAbs (pos d *ℤ (pos 2 *ℤ (pos p -ℤ pos m) -ℤ pos 0) -ℤ (pos n -ℤ pos (m * (2 * d)))) ≡ (d + h - rest) + (rest - (d + h)) = simp (ringℤ, abs-⊖) (omega (arith, f)) in
+        let r = pos 2 *ℤ (pos p -ℤ pos m) -ℤ pos 0 in
+        let size : natAbs r ≡ 2 * ((p - m) + (m - p)) = simp (ringℤ, abs-⊖) (omega arith) in
+        settles r (record { near = omega (arith, apart); even = λ q. omega (arith, size, div-add-mod (natAbs r) 2, bit-most (natAbs r)) })
 
 -- ---- as the code works `away_from_zero`, with the quotient that cuts toward zero
 no-less : (n : ℕ) → n < 0 → ⊥

@@ -1,8 +1,7 @@
 -- What the rounding functions and the root ask of their arguments, and what the functions below them answer. Nothing here is promised to a
 -- caller of the desk.
-use mathlib.Core.Path.{_≡_}
 use mathlib.Core.Bool.{cond}
-use Prim.Native.Nat.{ℕ, _+_, _*_, _<_, _≤_}
+use Prim.Native.Nat.{ℕ}
 use lib.IntN.{ℤ, pos, _+ℤ_, _-ℤ_, _*ℤ_}
 use lib.Signed.{ltZ, _<ℤ_}
 use Rattle.integers.specs.Sizes.{_within_}
@@ -22,19 +21,6 @@ pub record Rounds (x d : ℤ) : Type 0 where
   pub numerator : x within largestNumerator
   pub divisor : d within largestDivisor
   pub positive : pos 0 <ℤ d
-
--- rounding to a grain: r times d is at least every numerator, and not much more
-pub record Raises (d : ℕ) (r : ℤ) : Type 0 where
-  pub count : ℕ
-  pub is : r ≡ pos count
-  pub least : largestNumerator ≤ count * d
-  pub most : count * d ≤ largestNumerator + 2 * d
-
--- x is d times r and a rest below d: r is the whole part below x / d
-pub record Below (x : ℤ) (d : ℕ) (r : ℤ) : Type 0 where
-  pub rest : ℕ
-  pub less : rest < d
-  pub is : x ≡ pos d *ℤ r +ℤ pos rest
 
 -- rounding away from zero: what is put over twice the divisor, twice x and d more, away from zero
 unfoldable pub farther : ℤ → ℤ → ℤ

@@ -1,15 +1,13 @@
 // Functions of whole numbers: roundings, size, root.
 ghost use mathlib.Core.Path.{_≡_};
-ghost use Prim.Native.Nat.{_+_, _*_, _%_, _≤_, _<_};
-ghost use lib.IntN.{pos, natAbs};
-ghost use lib.Signed.{_<ℤ_};
-ghost use Rattle.integers.specs.Sizes.{_within_};
+ghost use Prim.Native.Nat.{_*_, _≤_, _<_};
+ghost use lib.IntN.{natAbs};
 ghost use Rattle.integers.specs.Rounding.{halfUp, awayFromZero, toGrain};
 ghost use Rattle.integers.specs.Root.{root};
-ghost use Rattle.integers.specs.Contracts.{largestNumerator, largestDivisor, largestCandidate, Rounds, Raises, Below, farther};
+ghost use Rattle.integers.specs.Contracts.{largestNumerator, largestDivisor, largestCandidate, Rounds, farther};
 
 // The largest numerator that the roundings take.
-const LARGEST_NUMERATOR: i64 = 4_000_000_000_000_000_000;
+const LARGEST_NUMERATOR: u64 = 4_000_000_000_000_000_000;
 
 // Twice x and d more, away from zero.
 fn farther(x: i64, d: i64) -> i64
@@ -36,45 +34,22 @@ pub fn away_from_zero(x: i64, d: i64) -> i64
     farther(x, d) / (2 * d)
 }
 
-// So many times d that no numerator is larger. The number is even, which nothing asks for: the compiler then reads off the quotient in
-// `whole_below` whether the whole part is odd.
-fn raise(d: i64) -> i64
-    requires { ⌜ (d within largestDivisor) × (pos 0 <ℤ d) ⌝ }
-    ensures { λ r. ⌜ Raises (natAbs d) r ⌝ }
-{
-    2 * (LARGEST_NUMERATOR / (2 * d) + 1)
-}
-
-// The whole part below x / d: x is raised by a multiple of d to zero or above, where division cuts downward.
-fn whole_below(x: i64, d: i64) -> i64
-    requires { ⌜ Rounds x d ⌝ }
-    ensures { λ r. ⌜ Below x (natAbs d) r ⌝ }
-{
-    let by = raise(d);
-    ((x + by * d) as u64 / d as u64) as i64 - by
-}
-
-// 1 for an odd number, 0 for an even one. (The bound, which every whole part keeps, makes the proof short.)
-fn odd(z: i64) -> u64
-    requires { ⌜ z within (largestNumerator + largestDivisor) ⌝ }
-    ensures { λ r. ⌜ r ≡ natAbs z % 2 ⌝ }
-{
-    (z % 2 != 0) as u64
-}
-
-// x / d to the nearest grain, a half to the even one (METHOD 1.3): one more than the whole part below where the double of the rest is greater
-// than d, or the same and the whole part odd.
+// x / d to the nearest grain, a half to the even one (METHOD 1.3), by pairs of grains: an odd one and the even one after it. `less` is the largest
+// number below half of d. The numerators of a pair begin `less` before its odd grain, which has the first 2 less + 1 of them, none of them a half; the
+// even one has the others. x is raised by whole pairs to zero or above, where division cuts downward. (The quotient stands before the comparison, and
+// that is taken as a number: else the compiler makes a branch of it.)
 pub fn to_grain(x: i64, d: i64) -> i64
     requires { ⌜ Rounds x d ⌝ }
     ensures { λ r. ⌜ r ≡ toGrain x (natAbs d) ⌝ }
 {
-    let below = whole_below(x, d);
-    let rest = (x - below * d) as u64;
-    if (d as u64) < 2 * rest + odd(below) {
-        below + 1
-    } else {
-        below
-    }
+    let n = d as u64;
+    let pair = 2 * n;
+    let by = LARGEST_NUMERATOR / pair + 1;
+    let less = (n - 1) / 2;
+    let y = (x + (by * pair) as i64) as u64 + (n + less);
+    let pairs = y / pair;
+    let odd = (y % pair <= 2 * less) as i64;
+    2 * (pairs as i64 - by as i64) - odd
 }
 
 // The size of a number.
