@@ -10,4 +10,3 @@ pub mod Window
 pub mod Stretches
 pub mod Stored
 pub mod ShortRuns
-pub mod Sliding

@@ -5,9 +5,13 @@ use Rattle.rows.specs.declared.SeasonalFilter.the-variants.{ThreeByThree, Three
 use Rattle.rows.specs.declared.Terms.{Terms}
 use Rattle.rows.specs.declared.Terms.the-variants.{Nine, Thirteen, TwentyThree}
 use Rattle.rows.specs.Table.{rowCount, rowWeight}
-use Rattle.rows.specs.FilterTables.{tableSeasonal, tableHenderson}
+use Rattle.rows.specs.FilterTables.{table2x12, tableSeasonal, tableHenderson}
 use Rattle.filters.specs.Contracts.{Readable}
 use Rattle.filters.proofs.Window.{readable}
+
+pub readable2x12 : Readable table2x12
+unfolding table2x12 rowCount rowWeight sumN
+readable2x12 = readable _ (tt, tt, tt, tt, tt, tt, tt, tt, tt, tt, tt, tt)
 
 pub readableSeasonal : (f : SeasonalFilter) → Readable (tableSeasonal f)
 unfolding tableSeasonal rowCount rowWeight sumN

@@ -46,7 +46,7 @@ pub record Stretch (F : Table) (first past b a lo hi : ℕ) : Type 0 where
   pub no-more-after : (a ≡ F .side) ⊎ (past ≤ lo + a * F .step + F .step)
 
 module _ {F : Table} {first past b a lo hi : ℕ} (s : Stretch F first past b a lo hi) where
-  stretch-serves : {x : List ℤ} → FilterableMonths first past x → Serves F b a lo hi x
+  pub stretch-serves : {x : List ℤ} → FilterableMonths first past x → Serves F b a lo hi x
   stretch-serves q = record {
     order = s .order;
     few-before = s .few-before;
@@ -56,12 +56,12 @@ module _ {F : Table} {first past b a lo hi : ℕ} (s : Stretch F first past b a 
     small = λ i l m. q .small i (omega (arith, s .before)) (omega (arith, s .after));
   }
 
-  stretch-earlier : Readable F → (t : ℕ) → lo ≤ t → t < hi → b ≡ earlier F first t
+  pub stretch-earlier : Readable F → (t : ℕ) → lo ≤ t → t < hi → b ≡ earlier F first t
   unfolding earlier
   stretch-earlier ok t l m = count-is (F .step) (F .side) (t - first) b (ok .step-least) (s .few-before) (omega (arith, s .before))
       (⊎-elim (λ e. inl e) (λ (e : hi ≤ first + b * F .step + F .step). inr (omega (arith, s .before))) (s .no-more-before))
 
-  stretch-later : Readable F → (t : ℕ) → lo ≤ t → t < hi → a ≡ later F past t
+  pub stretch-later : Readable F → (t : ℕ) → lo ≤ t → t < hi → a ≡ later F past t
   unfolding later
   stretch-later ok t l m = count-is (F .step) (F .side) (past - 1 - t) a (ok .step-least) (s .few-after) (omega (arith, s .after))
       (⊎-elim (λ e. inl e) (λ (e : past ≤ lo + a * F .step + F .step). inr (omega (arith, s .after))) (s .no-more-after))

@@ -11,9 +11,8 @@ use Rattle.integers.specs.Filling.{Filled}
 use Rattle.integers.specs.Sums.{norm}
 use Rattle.refusals.specs.Limits.{mostMonths, monthsOfYear}
 use Rattle.rows.specs.Table.{Table, rowCount, rowWeight}
-use Rattle.rows.specs.MeanRows.{row2x12}
 use Rattle.filters.specs.declared.Shape.{Shape}
-use Rattle.filters.specs.Filter.{dot, byRow, valueAt}
+use Rattle.filters.specs.Filter.{byRow, valueAt}
 
 -- no number that is filtered is larger; times the largest norm it is a numerator that can be rounded
 abbrev pub largest : ℕ
@@ -51,6 +50,10 @@ tableWith side rowStep step middle ends rows = record { side = side; rowStep = r
 -- METHOD 2.3, 2.4 and 2.8: a seasonal filter, whose values stand twelve months apart
 abbrev pub runTable : ℕ → ℕ → ℕ → ℕ → List ℤ → Table
 runTable side rowStep middle ends rows = tableWith side rowStep monthsOfYear middle ends rows
+
+-- METHOD 2.2: a filter along the series that has one row, and a value only where `side` values stand on each side
+abbrev pub oneRow : ℕ → ℕ → List ℤ → Table
+oneRow side over row = record { side = side; rowStep = 1; step = 1; width = 0; rows = row; middle = over; ends = over }
 
 -- m weights from `at` on, and the values that they meet
 pub record Dots (w : List ℤ) (at m : ℕ) (x : List ℤ) (from step : ℕ) : Type 0 where
@@ -140,14 +143,3 @@ alike side turn = cond (eqb turn side) 1 side
 -- and how many months each of these serves, from month lo on: `step` of them, the middle row all that are left but those of the rows after it
 unfoldable pub monthsEach : ℕ → ℕ → ℕ → ℕ → ℕ → ℕ
 monthsEach side step turn lo past = cond (eqb turn side) (past - side * step - lo) step
-
--- the weighted sum of 2×12 over the thirteen values from place i on
-unfoldable pub sum2x12 : List ℤ → ℕ → ℤ
-sum2x12 x i = dot 13 (λ k. row2x12 ‼ (0 + k)) x i 1
-
--- the values that leave this sum and come in from place i - 1 to place i
-pub record Slides (x : List ℤ) (i : ℕ) : Type 0 where
-  pub back : 1 ≤ i
-  pub inside : i + 12 < length x
-  pub short : length x ≤ mostMonths
-  pub small : (t : ℕ) → i ≤ t + 1 → t ≤ i + 12 → (x ‼ t) within largest

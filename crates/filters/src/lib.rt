@@ -1,4 +1,4 @@
-// METHOD 2: every moving average, by one filter over constant rows; the sum of 2x12, which has one row, slides.
+// METHOD 2: every moving average, by one filter over constant rows.
 ghost use mathlib.Core.Path.{_≡_};
 ghost use Prim.Native.Nat.{_+_, _*_, _-_, _≤_, _<_, min};
 ghost use mathlib.Core.List.{[]};
@@ -15,7 +15,7 @@ ghost use Rattle.rows.specs.declared.SeasonalFilter.the-variants.{ThreeByThree,
 ghost use Rattle.rows.specs.declared.Terms.the-variants.{Nine, Thirteen, TwentyThree};
 ghost use Rattle.rows.specs.FilterTables.{table2x12, tableSeasonal, tableHenderson};
 ghost use Rattle.filters.specs.Filter.{dot, byRow, valueAt, filter};
-ghost use Rattle.filters.specs.Contracts.{tableOf, tableWith, runTable, largestOver, mostSide, mostRowStep, Dots, Filterable, FilterableMonths, Readable, Served, Serves, inTurn, ServeInTurn, CanFilter, FilteredMonths, alike, monthsEach, Slides, sum2x12};
+ghost use Rattle.filters.specs.Contracts.{tableOf, tableWith, runTable, oneRow, largestOver, mostSide, mostRowStep, Dots, Filterable, FilterableMonths, Readable, Served, Serves, inTurn, ServeInTurn, CanFilter, FilteredMonths, alike, monthsEach};
 use rows::SeasonalFilter;
 use rows::Terms;
 use rows::henderson_9::MIDDLE_HENDERSON_9;
@@ -27,11 +27,13 @@ use rows::henderson_13::SIDE_HENDERSON_13;
 use rows::henderson_23::MIDDLE_HENDERSON_23;
 use rows::henderson_23::ROWS_HENDERSON_23;
 use rows::henderson_23::SIDE_HENDERSON_23;
+use rows::mean_rows::OVER_2X12;
 use rows::mean_rows::OVER_3X3;
 use rows::mean_rows::OVER_3X5;
 use rows::mean_rows::ROW_2X12;
 use rows::mean_rows::ROWS_3X3;
 use rows::mean_rows::ROWS_3X5;
+use rows::mean_rows::SIDE_2X12;
 use rows::mean_rows::SIDE_3X3;
 use rows::mean_rows::SIDE_3X5;
 use rows::three_by_nine::ENDS_3X9;
@@ -263,26 +265,37 @@ fn short_runs(
     }
 }
 
-// The weighted sum of 2x12 over the thirteen values from place i on, from that of the place before: two values leave and two come in.
-fn next_sum(sum: i64, x: &[i64], i: usize) -> i64
-    requires { ⌜ Slides (now x) i × (sum ≡ sum2x12 (now x) (i - 1)) ⌝ }
-    ensures { λ r. ⌜ r ≡ sum2x12 (now (x .entry)) i ⌝ }
+// METHOD 2.2: the filter at the months with `side` values on each side, by its one row. The rest of out stays. The shape passes as numbers here too.
+fn fill_inside(
+    side: usize,
+    over: usize,
+    row: &[i64],
+    first: usize,
+    past: usize,
+    x: &[i64],
+    out: &mut [i64],
+)
+    requires { ⌜ CanFilter (oneRow side over (now row)) first past (now x) × (length (now out) ≡ length (now x)) ⌝ }
+    ensures { λ _. ⌜ Filled (pos 0) (valueAt (oneRow side over (now (row .entry))) first past (now (x .entry))) (first + side) (past - side)
+        (now (out .entry)) (now (out .exit)) ⌝ }
 {
-    sum + (x[i + 11] + x[i + 12] - (x[i - 1] + x[i]))
+    let f = Shape {
+        side: side,
+        row_step: 1,
+        step: 1,
+        width: 0,
+        middle: over,
+        ends: over,
+    };
+    fill_row(f, row, x, side, side, first + side, past - side, out);
 }
 
-// METHOD 2.2: 2x12 of values at the months from `first` to below `past`, where six of them stand on each side. Its row is read for the first month,
-// and the sum slides from there.
+// METHOD 2.2: 2x12 of values at the months from `first` to below `past`, where six of them stand on each side.
 pub fn two_by_twelve(first: usize, past: usize, x: &[i64], out: &mut [i64])
     requires { ⌜ FilterableMonths first past (now x) × (first + 13 ≤ past) × (length (now out) ≡ length (now x)) ⌝ }
     ensures { λ _. ⌜ Filled (pos 0) (valueAt table2x12 first past (now (x .entry))) (first + 6) (past - 6) (now (out .entry)) (now (out .exit)) ⌝ }
 {
-    let mut sum = dot(&ROW_2X12, 0, 13, x, first, 1);
-    out[first + 6] = rounded(sum, 24);
-    for t in first + 7..past - 6 {
-        sum = next_sum(sum, x, t - 6);
-        out[t] = rounded(sum, 24);
-    }
+    fill_inside(SIDE_2X12, OVER_2X12, &ROW_2X12, first, past, x, out);
 }
 
 // METHOD 2.3: 3x3 of each month's run.

@@ -1,9 +1,13 @@
 // METHOD 2.2 to 2.4: the stored rows of 2x12, 3x3 and 3x5, oldest value first: the rows for the start of a run, the middle row, the rows for its
-// end. The shorter rows are filled up with zeros. Beside those of 3x3 and 3x5: how many values a full row takes on each side, and the denominator
-// of every row.
+// end. The shorter rows are filled up with zeros. 2x12 has its middle row alone. Beside the rows of each: how many values a full row takes on each
+// side, and the denominator of every row.
 
 // 2x12, in 24ths.
 pub const ROW_2X12: [i64; 13] = [1, 2, 2, 2, 2, 2, 2, 2, 2, 2, 2, 2, 1];
+
+pub const SIDE_2X12: usize = 6;
+
+pub const OVER_2X12: usize = 24;
 
 // 3x3, in 27ths.
 pub const ROWS_3X3: [i64; 25] = [
