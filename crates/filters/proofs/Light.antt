@@ -24,7 +24,7 @@ unfolding later
 few-later F past t = omega arith
 
 -- the row for b values before and a after is one of the table's
-pub row-in : (F : Table) (b a : ℕ) → b ≤ F .side → rowFor F b a < rowCount F
+row-in : (F : Table) (b a : ℕ) → b ≤ F .side → rowFor F b a < rowCount F
 unfolding rowFor rowCount
 row-in F b a l = omega (arith, mul-le-mul-right (F .rowStep) l)
 

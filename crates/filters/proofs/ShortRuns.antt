@@ -13,15 +13,19 @@ use Rattle.rows.specs.FilterTables.{tableSeasonal, overSeasonal}
 use Rattle.filters.specs.Filter.{weightedSum, byRow, earlier, later, valueAt}
 use Rattle.filters.specs.Contracts.{runTable, Readable}
 use Rattle.filters.proofs.ByMonth.{steps-fit}
+use Rattle.filters.proofs.Light.{Light, all-light}
 use Rattle.filters.proofs.Window.{readable}
 
 -- its rows, all over one number
 abbrev pub short3x9 : Table
 short3x9 = runTable 5 6 overSeasonal overSeasonal rows3x9
 
+short-light : Light overSeasonal 1000 short3x9
+unfolding middleRow rowCount rowWeight denominator sumN
+short-light = all-light short3x9 overSeasonal 1000 tt
+
 pub short-readable : Readable short3x9
-unfolding rowCount rowWeight sumN
-short-readable = readable _ (tt, tt, tt, tt, tt, tt, tt, tt, tt, tt, tt, tt)
+short-readable = readable _ (tt, tt, tt, tt, tt, tt, tt, tt, tt, tt, tt) short-light (omega arith)
 
 -- with five values before and five after, ten years and a month are there
 full-row : (b a d e : ℕ) → b ≤ 5 → a ≤ 5 → b * 12 ≤ d → a * 12 ≤ e → d + e < 120 → b * 6 + (5 - a) ≡ 30 → ⊥

@@ -3,7 +3,7 @@ use mathlib.Core.Path.{_≡_, refl}
 use mathlib.Core.Bool.{Bool, true, false, cond}
 use mathlib.Core.List.{List, []}
 use Prim.Native.Nat.{ℕ, _+_, _*_, _-_, _≤_, _<_}
-use native.Mathlib.Nat.{le-trans, mul-le-mul-right, add-mul}
+use native.Mathlib.Nat.{le-trans, mul-le-mul-left, mul-le-mul-right, add-mul}
 use native.Mathlib.Omega.{arith}
 use lib.Dec.{T, leb, leb→le, eqb}
 use borrow.Author.Tests.{eq-eqb, ne-eqb}
@@ -13,15 +13,25 @@ use Rattle.integers.specs.Sizes.{_within_}
 use Rattle.integers.proofs.SizeLaws.{w≤}
 use Rattle.integers.specs.Lists.{_‼_}
 use Rattle.integers.specs.Rounding.{toGrain}
-use Rattle.integers.specs.Sums.{norm}
-use Rattle.integers.proofs.SumLaws.{sumN-upto, wsum-within}
-use Rattle.integers.specs.Contracts.{largestNumerator}
-use Rattle.rows.specs.Table.{Table, rowFor, middleRow, rowCount, rowWeight, denominator}
+use Rattle.integers.proofs.SumLaws.{wsum-within}
+use Rattle.integers.specs.Contracts.{largestQuotient}
+use Rattle.rows.specs.Table.{Table, rowFor, middleRow, rowWeight, denominator}
 use Rattle.filters.specs.declared.Shape.{Shape}
-use Rattle.rows.proofs.RowTests.{all, all-at}
 use Rattle.filters.specs.Filter.{dot, weightedSum, byRow}
 use Rattle.filters.specs.Contracts.{largest, largestNorm, largestOver, mostSide, mostStep, mostWidth, mostRowStep, tableOf, Dots, Readable, Served, alike, monthsEach}
-use Rattle.filters.proofs.Light.{row-in}
+use Rattle.filters.proofs.Light.{Light}
+
+pub denominator-limits : (F : Table) → Readable F → (r : ℕ) → (1 ≤ denominator F r) × (denominator F r ≤ largestOver)
+unfolding denominator
+denominator-limits F h r = go (eqb r (middleRow F))
+  where
+    go : (b : Bool) → (1 ≤ cond b (F .middle) (F .ends)) × (cond b (F .middle) (F .ends) ≤ largestOver)
+    go true = (h .middle-least, h .middle-most)
+    go false = (h .ends-least, h .ends-most)
+
+-- values that are no larger than the largest, weighted, are over d a quotient that can be rounded
+quotient-fits : (a d : ℕ) → a * 1000 ≤ largestNorm * d → a * largest ≤ largestQuotient * d
+quotient-fits a d h = omega arith
 
 -- b values precede place t of x, and a follow
 module _ (F : Table) (x : List ℤ) (t b a : ℕ) (ok : Readable F) (v : Served F b a t x) where
@@ -40,20 +50,20 @@ module _ (F : Table) (x : List ℤ) (t b a : ℕ) (ok : Readable F) (v : Served 
   unfolding rowWeight
   dots = record {
     room = row-room;
-    light = le-trans (sumN-upto (b + 1 + a) (2 * F .side + 1) _ (omega (arith, v))) (ok .light (rowFor F b a) (row-in F b a (v .few-before)));
+    light = le-trans (ok .light b a (v .few-before) (v .few-after)) (mul-le-mul-left largestNorm (denominator-limits F ok (rowFor F b a) .1));
     places = λ k l. omega (arith, meets k l, v .after);
     small = λ k l. let m = meets k l in v .small (t - b * F .step + k * F .step) (m .0) (m .1);
   }
+
+  pub sum-within : dot (b + 1 + a) (λ k. F .rows ‼ (rowFor F b a * F .width + k)) x (t - b * F .step) (F .step) within largestQuotient * denominator F (rowFor F b a)
+  unfolding dot rowWeight
+  sum-within = w≤ (wsum-within (b + 1 + a) (rowWeight F (rowFor F b a)) (λ k. x ‼ (t - b * F .step + k * F .step)) largest (λ k l. dots .small k l))
+      (quotient-fits _ (denominator F (rowFor F b a)) (ok .light b a (v .few-before) (v .few-after)))
 
   pub value-is : {sum z : ℤ} (d : ℕ) → sum ≡ dot (b + 1 + a) (λ k. F .rows ‼ (rowFor F b a * F .width + k)) x (t - b * F .step) (F .step)
       → d ≡ denominator F (rowFor F b a) → z ≡ toGrain sum d → z ≡ byRow F b a x t
   unfolding byRow weightedSum rowWeight
   value-is {sum} d e f g = rw (← e, ← f) g
-
-pub dot-within : {w : List ℤ} {at m : ℕ} {x : List ℤ} {from step : ℕ} → Dots w at m x from step → dot m (λ k. w ‼ (at + k)) x from step within largestNumerator
-unfolding dot
-dot-within {w} {at} {m} {x} {from} {step} h =
-    w≤ (wsum-within m (λ k. w ‼ (at + k)) (λ k. x ‼ (from + k * step)) largest (λ i l. h .small i l)) (omega (arith, h .light))
 
 -- the denominator of a row
 pub in-middle : (F : Table) (r : ℕ) → r ≡ F .side * F .rowStep → F .middle ≡ denominator F r
@@ -85,23 +95,14 @@ pub any-weights : (f : Shape) (r : ℕ) (rows : List ℤ) → denominator (table
 unfolding denominator middleRow
 any-weights f r rows = refl
 
-pub denominator-limits : (F : Table) → Readable F → (r : ℕ) → (1 ≤ denominator F r) × (denominator F r ≤ largestOver)
-unfolding denominator
-denominator-limits F h r = go (eqb r (middleRow F))
-  where
-    go : (b : Bool) → (1 ≤ cond b (F .middle) (F .ends)) × (cond b (F .middle) (F .ends) ≤ largestOver)
-    go true = (h .middle-least, h .middle-most)
-    go false = (h .ends-least, h .ends-most)
-
 -- what is asked of a table, as tests that are computed
 abbrev pub Asked : Table → Type 0
 Asked F =
     T (leb 1 (F .side)) × T (leb (F .side) mostSide) × T (leb (F .rowStep) mostRowStep) × T (leb 1 (F .step)) × T (leb (F .step) mostStep) × T (leb (F .width) mostWidth) × T (leb ((F .side * F .rowStep + F .side) * F .width + (2 * F .side + 1)) (length (F .rows)))
-    × T (all (rowCount F) (λ r. leb (norm (2 * F .side + 1) (rowWeight F r)) largestNorm))
     × T (leb 1 (F .middle)) × T (leb 1 (F .ends)) × T (leb (F .middle) largestOver) × T (leb (F .ends) largestOver)
 
-pub readable : (F : Table) → Asked F → Readable F
-readable F q = record {
+pub readable : (F : Table) {L N : ℕ} → Asked F → Light L N F → N ≤ largestNorm → Readable F
+readable F q w most = record {
   side-least = leb→le _ _ (q .0);
   side-most = leb→le _ _ (q .1);
   rowStep-most = leb→le _ _ (q .2);
@@ -109,9 +110,9 @@ readable F q = record {
   step-most = leb→le _ _ (q .4);
   width-most = leb→le _ _ (q .5);
   rows-long = leb→le _ _ (q .6);
-  light = λ r k. leb→le _ _ (all-at (rowCount F) (λ r. leb (norm (2 * F .side + 1) (rowWeight F r)) largestNorm) (q .7) r k);
-  middle-least = leb→le _ _ (q .8);
-  ends-least = leb→le _ _ (q .9);
-  middle-most = leb→le _ _ (q .10);
-  ends-most = leb→le _ _ (q .11);
+  light = λ b a i j. le-trans (w .at b a i j .light) (mul-le-mul-right (denominator F (rowFor F b a)) most);
+  middle-least = leb→le _ _ (q .7);
+  ends-least = leb→le _ _ (q .8);
+  middle-most = leb→le _ _ (q .9);
+  ends-most = leb→le _ _ (q .10);
 }

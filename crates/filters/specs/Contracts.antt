@@ -10,17 +10,17 @@ use Rattle.integers.specs.Lists.{_‼_, AllWithin}
 use Rattle.integers.specs.Filling.{Filled}
 use Rattle.integers.specs.Sums.{norm}
 use Rattle.refusals.specs.Limits.{mostMonths, monthsOfYear}
-use Rattle.rows.specs.Table.{Table, rowCount, rowWeight}
+use Rattle.rows.specs.Table.{Table, rowFor, rowWeight, denominator}
 use Rattle.filters.specs.declared.Shape.{Shape}
 use Rattle.filters.specs.Filter.{byRow, valueAt}
 
--- no number that is filtered is larger; times the largest norm it is a numerator that can be rounded
+-- no number that is filtered is larger; times the largest norm it is a quotient that can be rounded
 abbrev pub largest : ℕ
 largest = 1_700_000_000_000
 
--- the sizes of a row's weights sum to no more: the ends of Henderson's 23 terms have 1,435,530
+-- the sizes of a row's weights sum to no more thousandths of its denominator: the ends of Henderson's 23 terms have 1,435,530 millionths
 abbrev pub largestNorm : ℕ
-largestNorm = 1_440_000
+largestNorm = 1_440
 
 -- the largest denominator of a row: millionths
 abbrev pub largestOver : ℕ
@@ -58,7 +58,7 @@ oneRow side over row = record { side = side; rowStep = 1; step = 1; width = 0; r
 -- m weights from `at` on, and the values that they meet
 pub record Dots (w : List ℤ) (at m : ℕ) (x : List ℤ) (from step : ℕ) : Type 0 where
   pub room : at + m ≤ length w
-  pub light : norm m (λ k. w ‼ (at + k)) ≤ largestNorm
+  pub light : norm m (λ k. w ‼ (at + k)) * 1000 ≤ largestNorm * largestOver
   pub places : (k : ℕ) → k < m → from + k * step < length x
   pub small : (k : ℕ) → k < m → (x ‼ (from + k * step)) within largest
 
@@ -82,7 +82,7 @@ pub record Readable (F : Table) : Type 0 where
   pub step-most : F .step ≤ mostStep
   pub width-most : F .width ≤ mostWidth
   pub rows-long : (F .side * F .rowStep + F .side) * F .width + (2 * F .side + 1) ≤ length (F .rows)
-  pub light : (r : ℕ) → r < rowCount F → norm (2 * F .side + 1) (rowWeight F r) ≤ largestNorm
+  pub light : (b a : ℕ) → b ≤ F .side → a ≤ F .side → norm (b + 1 + a) (rowWeight F (rowFor F b a)) * 1000 ≤ largestNorm * denominator F (rowFor F b a)
   pub middle-least : 1 ≤ F .middle
   pub ends-least : 1 ≤ F .ends
   pub middle-most : F .middle ≤ largestOver

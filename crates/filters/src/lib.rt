@@ -8,7 +8,7 @@ ghost use Rattle.integers.specs.Sizes.{_within_};
 ghost use Rattle.integers.specs.Lists.{_‼_};
 ghost use Rattle.integers.specs.Rounding.{toGrain};
 ghost use Rattle.integers.specs.Filling.{Filled};
-ghost use Rattle.integers.specs.Contracts.{largestNumerator};
+ghost use Rattle.integers.specs.Contracts.{largestQuotient};
 ghost use Rattle.refusals.specs.Limits.{mostMonths};
 ghost use Rattle.rows.specs.Table.{denominator};
 ghost use Rattle.rows.specs.declared.SeasonalFilter.the-variants.{ThreeByThree, ThreeByFive, ThreeByNine};
@@ -76,7 +76,7 @@ fn dot(w: &[i64], at: usize, m: usize, x: &[i64], from: usize, step: usize) -> i
 
 // A weighted sum over its row's denominator, rounded once.
 fn rounded(sum: i64, d: usize) -> i64
-    requires { ⌜ (sum within largestNumerator) × (1 ≤ d) × (d ≤ largestOver) ⌝ }
+    requires { ⌜ (sum within largestQuotient * d) × (1 ≤ d) × (d ≤ largestOver) ⌝ }
     ensures { λ r. ⌜ r ≡ toGrain sum d ⌝ }
 {
     integers::to_grain(sum, d as i64)

@@ -7,7 +7,6 @@ use native.Mathlib.Omega.{arith}
 use lib.Dec.{T, ltb, leb, ltb→lt, nltb→le, leb→le, nleb→lt}
 use lib.IntN.{ℤ, pos, negsuc, negℤ, natAbs, _+ℤ_, _-ℤ_, _*ℤ_, +ℤ-negℤ-cancel}
 use lib.Signed.{quotZ, ltZ, _<ℤ_, _≤ℤ_, ltZ-yes, ltZ-no}
-use mir.Val.{boolByte}
 use Rattle.integers.proofs.Differences.{_⊖_, pp, nn, ⊖-eq, rep, ringℤ}
 use Rattle.integers.specs.Sizes.{_within_}
 use Rattle.integers.proofs.SizeLaws.{by-abs, abs-⊖, abs-neg, abs-mul, w-lit, w+, w-, w*}
@@ -153,7 +152,7 @@ raised-is x k h = subst⁻¹ (λ (z : ℤ). natAbs z ≤ k → z +ℤ pos k ≡ 
 -- by pairs of grains: x is raised by m pairs to n; n, d and h together are p pairs and a rest, where 2 h is the even number just below d. The even
 -- grain of a pair is the number, or the odd one before it where the rest is at most 2 h: then the distance is less than a half
 pub by-pairs : (x : ℤ) (d m n h p rest : ℕ) → x +ℤ pos (m * (2 * d)) ≡ pos n → n + (d + h) ≡ 2 * d * p + rest → rest < 2 * d → 2 * h < d → d ≤ 2 * h + 2
-    → pos 2 *ℤ (pos p -ℤ pos m) -ℤ pos (boolByte (leb rest (2 * h))) ≡ toGrain x d
+    → pos 2 *ℤ (pos p -ℤ pos m) -ℤ cond (leb rest (2 * h)) (pos 1) (pos 0) ≡ toGrain x d
 by-pairs x d m n h p rest e f less below above = go (leb rest (2 * h)) (λ t. leb→le rest (2 * h) t) (λ t. nleb→lt rest (2 * h) t)
   where
     x-is : pos n -ℤ pos (m * (2 * d)) ≡ x
@@ -162,7 +161,7 @@ by-pairs x d m n h p rest e f less below above = go (leb rest (2 * h)) (λ t. le
     settles : (r : ℤ) → NearestEven (pos n -ℤ pos (m * (2 * d))) d r → r ≡ toGrain x d
     settles r k = toGrain-settled x d (omega arith) .no-other r (subst (λ (z : ℤ). NearestEven z d r) x-is k)
 
-    go : (b : Bool) → (T b → rest ≤ 2 * h) → (T (not b) → 2 * h < rest) → pos 2 *ℤ (pos p -ℤ pos m) -ℤ pos (boolByte b) ≡ toGrain x d
+    go : (b : Bool) → (T b → rest ≤ 2 * h) → (T (not b) → 2 * h < rest) → pos 2 *ℤ (pos p -ℤ pos m) -ℤ cond b (pos 1) (pos 0) ≡ toGrain x d
     go true t g =
         let l : rest ≤ 2 * h = t tt in
         let apart : natAbs (pos d *ℤ (pos 2 *ℤ (pos p -ℤ pos m) -ℤ pos 1) -ℤ (pos n -ℤ pos (m * (2 * d)))) ≡ (h - rest) + (rest - h) = simp (ringℤ, abs-⊖) (omega (arith, f)) in

@@ -11,7 +11,7 @@ use mir.Syntax.{w32, w64}
 use mir.Val.{Fits, SFits, toZ, ofZ}
 use mir.Facts.{toZ-ofZ}
 use Rattle.integers.specs.Sizes.{_within_}
-use Rattle.integers.specs.Contracts.{largestNumerator, largestDivisor, Rounds}
+use Rattle.integers.specs.Contracts.{largestQuotient, largestDivisor, largestNumerator, Rounds}
 use Rattle.integers.proofs.SizeLaws.{sfits32, sfits64, w-lit, w+, w-, w*, w≤, abs-neg}
 
 pub record Reads (t z : ℤ) (B : ℕ) : Type 0 where
@@ -118,10 +118,13 @@ i-unsigned {n = n} {B = B} h k = unsigned (h .eq) (omega (arith, h .bound .abs, 
 pub kept : {z v : ℤ} → mag z < 2 ^ 63 → z ≡ v → toZ w64 (ofZ w64 z) ≡ v
 kept m e = toZ-ofZ (record { sfits = m }) ∙ e
 
--- what the rounding functions ask
-pub rounds : {t u x d : ℤ} {A B : ℕ} → Reads t x A → Reads u d B → A ≤ largestNumerator → B ≤ largestDivisor → pos 0 <ℤ d → Rounds t u
-rounds h k a b p = record {
-  numerator = i-within (i≤ h a);
+-- what the rounding functions ask, and how large a numerator then is
+pub rounds : {t u x d : ℤ} {A B : ℕ} → Reads t x A → Reads u d B → A ≤ largestQuotient * natAbs d → B ≤ largestDivisor → pos 0 <ℤ d → Rounds t u
+rounds {t} h k a b p = record {
+  quotient = subst (λ (z : ℤ). t within largestQuotient * natAbs z) (sym (k .eq)) (i-within (i≤ h a));
   divisor = i-within (i≤ k b);
   positive = subst (λ (z : ℤ). pos 0 <ℤ z) (sym (k .eq)) p;
 }
+
+pub numerator-within : {x d : ℤ} → Rounds x d → x within largestNumerator
+numerator-within r = w≤ (r .quotient) (omega (arith, r .divisor))

@@ -1,13 +1,15 @@
 // Functions of whole numbers: roundings, size, root.
 ghost use mathlib.Core.Path.{_≡_};
-ghost use Prim.Native.Nat.{_*_, _≤_, _<_};
-ghost use lib.IntN.{natAbs};
+ghost use mathlib.Core.Bool.{cond};
+ghost use Prim.Native.Nat.{_+_, _*_, _≤_, _<_};
+ghost use lib.Dec.{leb};
+ghost use lib.IntN.{pos, natAbs};
 ghost use Rattle.integers.specs.Rounding.{halfUp, awayFromZero, toGrain};
 ghost use Rattle.integers.specs.Root.{root};
-ghost use Rattle.integers.specs.Contracts.{largestNumerator, largestDivisor, largestCandidate, Rounds, farther};
+ghost use Rattle.integers.specs.Contracts.{largestDivisor, largestNumerator, largestCandidate, Rounds, farther};
 
-// The largest numerator that the roundings take.
-const LARGEST_NUMERATOR: u64 = 4_000_000_000_000_000_000;
+// The largest quotient that is rounded, in pairs of grains.
+const PAIRS: i64 = 2_000_000_000_000;
 
 // Twice x and d more, away from zero.
 fn farther(x: i64, d: i64) -> i64
@@ -19,7 +21,7 @@ fn farther(x: i64, d: i64) -> i64
 
 // n / d to the nearest whole number, a half up: for the quotient of a weight, and for whole units, whose sizes are rounded (METHOD 1.4).
 pub fn half_up(n: u64, d: u64) -> u64
-    requires { ⌜ (0 < d) × (n ≤ largestNumerator) × (d ≤ largestDivisor) ⌝ }
+    requires { ⌜ (0 < d) × (n ≤ largestNumerator) × (d ≤ largestNumerator) ⌝ }
     ensures { λ r. ⌜ r ≡ halfUp n d ⌝ }
 {
     (2 * n + d) / (2 * d)
@@ -34,22 +36,36 @@ pub fn away_from_zero(x: i64, d: i64) -> i64
     farther(x, d) / (2 * d)
 }
 
-// x / d to the nearest grain, a half to the even one (METHOD 1.3), by pairs of grains: an odd one and the even one after it. `less` is the largest
-// number below half of d. The numerators of a pair begin `less` before its odd grain, which has the first 2 less + 1 of them, none of them a half; the
-// even one has the others. x is raised by whole pairs to zero or above, where division cuts downward. (The quotient stands before the comparison, and
-// that is taken as a number: else the compiler makes a branch of it.)
+// The largest number below half of n.
+fn below_half(n: u64) -> u64
+    requires { ⌜ 0 < n ⌝ }
+    ensures { λ r. ⌜ (2 * r < n) × (n ≤ 2 * r + 2) ⌝ }
+{
+    (n - 1) / 2
+}
+
+// 1 where a rest is among the first of its pair, those of the odd grain; else 0. (As a number: of a test the compiler makes a branch.)
+fn odd(rest: u64, less: u64) -> i64
+    requires { ⌜ less ≤ largestDivisor ⌝ }
+    ensures { λ r. ⌜ r ≡ cond (leb rest (2 * less)) (pos 1) (pos 0) ⌝ }
+{
+    (rest <= 2 * less) as i64
+}
+
+// x / d to the nearest grain, a half to the even one (METHOD 1.3), by pairs of grains: an odd one and the even one after it. With `less` for the
+// largest number below half of d, the numerators of a pair begin `less` before its odd grain, which has the first 2 less + 1 of them, none of them a
+// half; the even one has the others. x is raised by PAIRS pairs to zero or above, where division cuts downward. (The quotient stands before `odd`:
+// else the compiler makes a branch here too.)
 pub fn to_grain(x: i64, d: i64) -> i64
     requires { ⌜ Rounds x d ⌝ }
     ensures { λ r. ⌜ r ≡ toGrain x (natAbs d) ⌝ }
 {
     let n = d as u64;
     let pair = 2 * n;
-    let by = LARGEST_NUMERATOR / pair + 1;
-    let less = (n - 1) / 2;
-    let y = (x + (by * pair) as i64) as u64 + (n + less);
-    let pairs = y / pair;
-    let odd = (y % pair <= 2 * less) as i64;
-    2 * (pairs as i64 - by as i64) - odd
+    let less = below_half(n);
+    let y = (x + PAIRS * (2 * d)) as u64 + (n + less);
+    let even = 2 * ((y / pair) as i64 - PAIRS);
+    even - odd(y % pair, less)
 }
 
 // The size of a number.

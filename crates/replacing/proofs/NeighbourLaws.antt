@@ -16,7 +16,7 @@ use Rattle.integers.specs.Lists.{_‼_, AllWithin}
 use Rattle.integers.specs.Rounding.{toGrain}
 use Rattle.integers.proofs.Differences.{rep, ringℤ}
 use Rattle.integers.proofs.SizeLaws.{w+, w≤}
-use Rattle.integers.proofs.Signed64.{Reads, i+, i-in, i-kept}
+use Rattle.integers.proofs.Signed64.{Reads, i+, i-in, i-kept, i-bound}
 use Rattle.refusals.specs.Limits.{fullWeight}
 use Rattle.filters.specs.Contracts.{largest}
 use Rattle.replacing.specs.Neighbours.{fullBefore, fullAfter, nearest, neighbours}
@@ -113,8 +113,9 @@ module _ (period : ℕ) (w : List ℕ) (x : List ℤ) (t : ℕ) where
     pub count-most : count ≤ 4
     count-most = omega (arith, g .count-is, neighbours-most period w t)
 
-    pub summed-read : AllWithin largest x → Reads (held s) s (4 * largest)
-    summed-read y = i-in (rw (g .sum-is) (w≤ (sum-within y (neighbours period w t)) (omega (arith, neighbours-most period w t)))) tt
+    pub summed-read : AllWithin largest x → Reads (held s) s (count * largest)
+    summed-read y = let h : s within count * largest = rw (g .sum-is, g .count-is) (sum-within y (neighbours period w t)) in
+        i-bound (i-in {B = 4 * largest} (w≤ h (omega (arith, count-most))) tt) h
 
     mean-is : getD w t 0 < fullWeight → 0 < count → toGrain (pos (getD w t 0) *ℤ (x ‼ t) +ℤ pos fullWeight *ℤ s) (getD w t 0 + fullWeight * count) ≡ replacedAt period w x t
     unfolding replacedAt isReplaced countedSum counted

@@ -137,7 +137,7 @@ fn counted(own: u16, count: usize) -> usize
 
 // METHOD 3.9: the mean of a value, counted by its weight, and its neighbours, counted 1,000 times each; rounded once.
 fn weighted_mean(own: u16, value: i64, sum: i64, count: usize) -> i64
-    requires { ⌜ (own < fullWeight) × (value within largest) × (sum within 4 * largest) × (0 < count) × (count ≤ 4) ⌝ }
+    requires { ⌜ (own < fullWeight) × (value within largest) × (sum within count * largest) × (0 < count) × (count ≤ 4) ⌝ }
     ensures { λ r. ⌜ r ≡ toGrain (pos own *ℤ value +ℤ pos fullWeight *ℤ sum) (own + fullWeight * count) ⌝ }
 {
     let total = (own as i64) * value + (refusals::FULL_WEIGHT as i64) * sum;

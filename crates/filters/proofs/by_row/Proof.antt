@@ -6,7 +6,11 @@ use native.Mathlib.Nat.{mul-le-mul}
 use native.Mathlib.Omega.{arith}
 use borrow.Author.Needs.{needs}
 use Rattle.integers.proofs.Signed64.{i-call, i-within, kept}
+use Rattle.integers.specs.Sizes.{_within_}
+use Rattle.integers.specs.Lists.{_‼_}
+use Rattle.integers.specs.Contracts.{largestQuotient}
 use Rattle.rows.specs.Table.{Table, rowFor, denominator}
+use Rattle.filters.specs.Filter.{dot}
 use Rattle.filters.specs.Contracts.{mostSide, mostRowStep, tableOf, Dots}
 use Rattle.filters.proofs.Window as window
 use Rattle.filters.proofs.by_row.Statement.{statement}
@@ -23,6 +27,13 @@ the-dots : (s : tie.Start) → Dots (s .args .rows .now) (row s * s .args .f .wi
     (s .args .x .now) (s .args .t - s .args .earlier * s .args .f .step) (s .args .f .step)
 unfolding rowFor
 the-dots s = window.dots (F s) (s .args .x .now) (s .args .t) (s .args .earlier) (s .args .later) (s .pre .0) (s .pre .1)
+
+-- its sum can be rounded
+the-sum : (s : tie.Start)
+    → dot (s .args .earlier + 1 + s .args .later) (λ k. s .args .rows .now ‼ (row s * s .args .f .width + k)) (s .args .x .now) (s .args .t - s .args .earlier * s .args .f .step) (s .args .f .step)
+    within largestQuotient * denominator (F s) (row s)
+unfolding rowFor
+the-sum s = window.sum-within (F s) (s .args .x .now) (s .args .t) (s .args .earlier) (s .args .later) (s .pre .0) (s .pre .1)
 
 -- the start of the function, from where its shape was read
 abbrev start4 : tie.After-struct-known4 → tie.Start
@@ -69,7 +80,7 @@ denominator-requires c κs = search needs
 rounded-requires : tie.Need-rounded-requires
 rounded-requires c κs = let p = c .before in let s = start4 (p .before) in
     let l = window.denominator-limits (F s) (s .pre .0) (row s) in
-    (i-within (i-call (p .dot .ok) (p .dot .ensures) (window.dot-within (the-dots s))), omega (arith, l, over c), omega (arith, l, over c))
+    (i-within (i-call (p .dot .ok) (p .dot .ensures) (rw (over c) (the-sum s))), omega (arith, l, over c), omega (arith, l, over c))
 
 returns : tie.Need-returns
 unfolding rowFor

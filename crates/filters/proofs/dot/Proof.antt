@@ -12,7 +12,7 @@ use Rattle.integers.specs.Lists.{_‼_}
 use Rattle.integers.specs.Sums.{wsum, norm}
 use Rattle.integers.proofs.SumLaws.{self-within, sum-zero, sum-more, sumN-more, sumN-upto}
 use Rattle.filters.specs.Filter.{dot}
-use Rattle.filters.specs.Contracts.{largest, largestNorm}
+use Rattle.filters.specs.Contracts.{largest, largestNorm, largestOver}
 use Rattle.filters.proofs.dot.Statement.{statement}
 use Rattle.filters.proofs.dot.Tie as tie
 
@@ -49,7 +49,7 @@ shared-slice-copy-out-sum-2 c = omega (arith, c .before .before .before .pre .pl
 
 -- the sizes of the first weights, and of one more
 light : (l : tie.At-loop Inv-loop μ-loop) → l .loop .k < l .before .args .m
-    → norm (l .loop .k) (λ j. l .before .args .w .now ‼ (l .before .args .at + j)) + natAbs (l .before .args .w .now ‼ (l .before .args .at + l .loop .k)) ≤ largestNorm
+    → (norm (l .loop .k) (λ j. l .before .args .w .now ‼ (l .before .args .at + j)) + natAbs (l .before .args .w .now ‼ (l .before .args .at + l .loop .k))) * 1000 ≤ largestNorm * largestOver
 light l h = let f : ℕ → ℕ = λ j. natAbs (l .before .args .w .now ‼ (l .before .args .at + j)) in
     omega (arith, sumN-upto (l .loop .k + 1) (l .before .args .m) f (omega arith), sumN-more (l .loop .k) f, l .before .pre .light)
 

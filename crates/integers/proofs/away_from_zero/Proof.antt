@@ -9,7 +9,7 @@ use mir.Val.{toZ, ofZ}
 use mir.Facts.{toZ-ofZ}
 use borrow.Author.Needs.{needs}
 use Rattle.integers.proofs.SizeLaws.{abs-mul}
-use Rattle.integers.proofs.Signed64.{Reads, i-arg, i-lit, i*, i/, i-fits, i-kept, i-divisor, i-call, pos-abs}
+use Rattle.integers.proofs.Signed64.{Reads, i-arg, i-lit, i*, i/, i-fits, i-kept, i-divisor, i-call, pos-abs, numerator-within}
 use Rattle.integers.specs.Contracts.{largestNumerator, largestDivisor, farther}
 use Rattle.integers.proofs.RoundingLaws.{farther-quot, farther-within}
 use Rattle.integers.proofs.away_from_zero.Statement.{statement}
@@ -27,7 +27,7 @@ farther-requires : tie.Need-farther-requires
 farther-requires c κs = search needs
 
 numerator : (c : tie.After-farther) → Reads (toZ w64 (ofZ w64 (c .farther .result))) (farther (c .before .args .x) (c .before .args .d)) (2 * largestNumerator + largestDivisor)
-numerator c = let s = c .before in i-call (c .farther .ok) (c .farther .ensures ∙ ap₂ farther (toZ-ofZ (s .fits .x)) (toZ-ofZ (s .fits .d))) (farther-within (s .pre .numerator) (s .pre .divisor))
+numerator c = let s = c .before in i-call (c .farther .ok) (c .farther .ensures ∙ ap₂ farther (toZ-ofZ (s .fits .x)) (toZ-ofZ (s .fits .d))) (farther-within (numerator-within (s .pre)) (s .pre .divisor))
 
 mul-result : tie.Need-mul-result
 mul-result c = i-fits (twice-d (c .before)) tt

@@ -9,8 +9,10 @@ use lib.Signed.{ltZ-yes}
 use borrow.Author.Needs.{needs}
 use mir.Syntax.{w64}
 use mir.Val.{toZ}
+use Rattle.integers.specs.Sizes.{_within_}
 use Rattle.integers.specs.Rounding.{toGrain}
-use Rattle.integers.proofs.Signed64.{Reads, i-arg, i-cast, i-lit, i+, i*, i-fits, i-kept, kept, rounds}
+use Rattle.integers.proofs.SizeLaws.{w-lit, w+, w*, w≤}
+use Rattle.integers.proofs.Signed64.{Reads, i-arg, i-cast, i-lit, i+, i*, i-fits, i-kept, i-bound, kept, rounds}
 use Rattle.refusals.specs.Limits.{fullWeight}
 use Rattle.filters.specs.Contracts.{largest}
 use Rattle.replacing.proofs.NeighbourLaws.{held}
@@ -22,11 +24,15 @@ own-is : (s : tie.Start) → Reads (toZ w64 (s .args .own) *ℤ held (s .args .v
 own-is s = i* (i-cast {n = s .args .own} {B = fullWeight} (omega (arith, s .pre .0)) tt) (i-arg (s .fits .value) (s .pre .1))
 
 near-is : (s : tie.Start) → Reads (pos fullWeight *ℤ held (s .args .sum)) (pos fullWeight *ℤ s .args .sum) (fullWeight * (4 * largest))
-near-is s = i* (i-lit fullWeight) (i-arg (s .fits .sum) (s .pre .2))
+near-is s = i* (i-lit fullWeight) (i-arg {B = 4 * largest} (s .fits .sum) (w≤ (s .pre .2) (omega (arith, s .pre .4))))
 
 total-is : (s : tie.Start) → Reads (held (toZ w64 (s .args .own) *ℤ held (s .args .value)) +ℤ held (pos fullWeight *ℤ held (s .args .sum)))
     (pos (s .args .own) *ℤ s .args .value +ℤ pos fullWeight *ℤ s .args .sum) (fullWeight * largest + fullWeight * (4 * largest))
 total-is s = i+ (i-kept (own-is s) tt) (i-kept (near-is s) tt)
+
+-- and their sum is no larger than the largest value, counted as often as they are
+total-within : (s : tie.Start) → (pos (s .args .own) *ℤ s .args .value +ℤ pos fullWeight *ℤ s .args .sum) within (s .args .own * largest + fullWeight * (s .args .count * largest))
+total-within s = w+ (w* (w-lit (s .args .own)) (s .pre .1)) (w* (w-lit fullWeight) (s .pre .2))
 
 -- what the mean is over, as the call gave it
 d-is : (k : tie.After-counted) → Reads (toZ w64 (k .counted .result)) (pos (k .counted .result)) (5 * fullWeight)
@@ -54,7 +60,7 @@ cast-to-grain : tie.Need-cast-to-grain
 cast-to-grain c = search needs
 
 to-grain-requires : tie.Need-to-grain-requires
-to-grain-requires c κs = rounds (i-kept (total-is (c .before)) tt) (d-is c) (omega arith) (omega arith) (ltZ-yes (lt→ltb 0 (c .counted .result) (omega (arith, c .counted .ensures, c .before .pre))))
+to-grain-requires c κs = rounds (i-bound (i-kept (total-is (c .before)) tt) (total-within (c .before))) (d-is c) (omega (arith, c .counted .ensures)) (omega arith) (ltZ-yes (lt→ltb 0 (c .counted .result) (omega (arith, c .counted .ensures, c .before .pre))))
 
 returns : tie.Need-returns
 returns c = let k = c .before in
