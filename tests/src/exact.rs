@@ -179,6 +179,12 @@ pub fn distance(rounded: &[i64], exact: &[Fraction]) -> Distance {
     found
 }
 
+/// How far a table may lie from its exact working, in grains: in a pass that
+/// replaces nothing, in pass B, and of the results.
+pub const PASS_LIMITS: [(&str, i128); 2] = [("T2", 4), ("S2", 10)];
+pub const PASS_B_LIMITS: [(&str, i128); 2] = [("T2", 6), ("S2", 13)];
+pub const RESULT_LIMITS: [(&str, i128); 4] = [("D10", 10), ("D11", 10), ("D12", 15), ("D13", 25)];
+
 /// The four distances of D10 to D13 from E10 to E13.
 #[derive(Clone, Debug)]
 pub struct FourDistances {
@@ -198,10 +204,10 @@ impl FourDistances {
         }
     }
 
-    /// The four distances with their limits: 10 grains for seasonal and
-    /// adjusted, 15 for trend, 25 for irregular.
+    /// The four distances with their limits.
     pub fn with_limits(&self) -> [(&'static str, &Distance, i128); 4] {
-        [("D10", &self.d10, 10), ("D11", &self.d11, 10), ("D12", &self.d12, 15), ("D13", &self.d13, 25)]
+        let mut found = [&self.d10, &self.d11, &self.d12, &self.d13].into_iter();
+        RESULT_LIMITS.map(|(name, limit)| (name, found.next().expect("four distances"), limit))
     }
 
     pub fn are_within_limits(&self) -> bool {

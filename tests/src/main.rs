@@ -9,7 +9,7 @@ use separate::calendar::labels;
 use separate::columns::{from_columns, length_of, to_columns, write_columns};
 use separate::decompose::{check_size_and_start, decompose_fitting, Refusal, Tables};
 use separate::desk::{bytes_of, write};
-use separate::exact::{distance, exact_pass, exact_working, FourDistances};
+use separate::exact::{distance, exact_pass, exact_working, FourDistances, PASS_B_LIMITS, PASS_LIMITS};
 use separate::exact_b::{exact_pass_b, DistanceB};
 use separate::extremes::Extremes;
 use separate::generators::{
@@ -326,9 +326,8 @@ fn print_pass_distances(grains: &[i64]) -> Result<String, Refusal> {
     let steps = pass(grains);
     let exact = exact_pass(grains);
     let mut text = String::new();
-    for (name, d, limit) in
-        [("T2", distance(&steps.t2.values, &exact.t2), 4), ("S2", distance(&steps.s2.values, &exact.s2), 10)]
-    {
+    let found = [distance(&steps.t2.values, &exact.t2), distance(&steps.s2.values, &exact.s2)];
+    for ((name, limit), d) in PASS_LIMITS.into_iter().zip(found) {
         let word = if d.is_within(limit) { "within" } else { "beyond" };
         text.push_str(&format!("{name} {} about {:.4} at {} {word} {limit}\n", d.greatest, d.greatest.roughly(), d.place));
     }
@@ -339,8 +338,8 @@ fn print_pass_b_distances(figures: &[i32], start: u8) -> Result<String, Refusal>
     let tables = decompose_fitting(figures, start)?;
     let exact = exact_pass_b(&tables.b1, &tables.b4.held(), &tables.b9.held());
     let mut text = String::new();
-    for (name, rounded, exact, limit) in [("T2", &tables.b7, &exact.t2, 6), ("S2", &tables.b10, &exact.s2, 13)] {
-        let d = DistanceB::measure(rounded, exact);
+    let found = [DistanceB::measure(&tables.b7, &exact.t2), DistanceB::measure(&tables.b10, &exact.s2)];
+    for ((name, limit), d) in PASS_B_LIMITS.into_iter().zip(found) {
         let word = if d.is_within(limit) { "within" } else { "beyond" };
         text.push_str(&format!("{name} about {:.4} at {} {word} {limit}\n", d.roughly(), d.place));
     }

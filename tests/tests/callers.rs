@@ -835,7 +835,10 @@ fn through_both_forms(file: &[u8], first_year: u16) -> (String, Vec<u8>) {
 fn header_in_c_and_cpp() {
     let [major, minor, patch] = VERSION;
     let mut lines = vec![format!("VEPSJALM_VERSION {major}.{minor}.{patch}\n")];
-    lines.extend(constants().iter().map(|(name, value)| format!("VEPSJALM_{name} {value}\n")));
+    lines.extend(constants().iter().map(|(name, value)| {
+        let quotient = if name.ends_with(')') { format!(" {}", 1_000_000 / value) } else { String::new() };
+        format!("VEPSJALM_{name} {value}{quotient}\n")
+    }));
     lines.extend((0..=255).map(|number| format!("{number} {}\n", text_of(number))));
     let [small, longest] = accepted();
     for language in languages() {

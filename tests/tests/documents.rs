@@ -1,11 +1,15 @@
 //! What the documents show, beside the separately written program and the repository: README's sample and its members' sheet, METHOD's rows
 //! and those that are stored, the runs and means of its part 3.9, its flooded January, its lengths of the final trend, its seasonal filters, its
-//! weights by years, its month order, its members' sheets, its lengths of the scratch and its group that stays whole, the refusal sheets of
-//! README, METHOD and the header, the wrong programs that CONTRACTS names.
+//! weights by years, its month order, its members' sheets and its group that stays whole, the wrong programs that CONTRACTS names. METHOD's other
+//! numbers are in documents_rules.rs and documents_pencil.rs, refusal sheets in documents_refusals.rs, the header's comments in
+//! documents_header.rs.
 
+mod document;
+
+use document::{between, cells, document, numbers, root, without_commas};
 use separate::calendar::labels;
 use separate::columns::{by_month, last_year};
-use separate::decompose::{decompose_fitting, scratch_for, ROWS};
+use separate::decompose::decompose_fitting;
 use separate::desk::bytes_of;
 use separate::extremes::{neighbours, replacement, RunValue};
 use separate::generators::book_series;
@@ -18,21 +22,7 @@ use separate::seasonality::{chosen, questions};
 use separate::sheet::{self, length_of, read_sheet, whole_in, Cell};
 use separate::spread::{two_spreads, weights};
 use std::fs;
-use std::path::{Path, PathBuf};
-
-fn root() -> PathBuf {
-    Path::new(env!("CARGO_MANIFEST_DIR")).parent().expect("the repository's folder").to_path_buf()
-}
-
-fn document(name: &str) -> String {
-    fs::read_to_string(root().join(name)).expect("a document")
-}
-
-/// The text from a mark to the next of another.
-fn between<'a>(text: &'a str, mark: &str, end: &str) -> &'a str {
-    let (_, rest) = text.split_once(mark).unwrap_or_else(|| panic!("{mark}"));
-    rest.split_once(end).unwrap_or_else(|| panic!("{end}")).0
-}
+use std::path::Path;
 
 #[test]
 fn readme_shows_what_is_printed() {
@@ -44,11 +34,6 @@ fn readme_shows_what_is_printed() {
     assert!(first > 3 && shown.len() == first + 2);
     assert_eq!(shown[..first], lines[..first]);
     assert_eq!(shown[first + 1], lines[114]);
-}
-
-/// The numbers of a line, whatever stands between.
-fn numbers(line: &str) -> Vec<i128> {
-    line.split(|c: char| !c.is_ascii_digit() && c != '-').filter_map(|word| word.parse().ok()).collect()
 }
 
 #[test]
@@ -112,12 +97,6 @@ fn stored_rows_of_3x9_are_shared() {
         assert_eq!(shown.iter().map(|weight| weight * row.divisor).collect::<Vec<_>>(), worked, "{before} {after}");
         assert!(rest.iter().all(|&weight| weight == 0), "{before} {after}");
     }
-}
-
-/// The row of a table in Markdown whose first cell begins with a word: its other cells.
-fn cells<'a>(text: &'a str, word: &str) -> Vec<&'a str> {
-    let row = text.lines().find(|line| line.starts_with(&format!("| {word} "))).unwrap_or_else(|| panic!("{word}"));
-    row.trim_matches('|').split('|').skip(1).map(str::trim).collect()
 }
 
 #[test]
@@ -272,17 +251,6 @@ fn method_has_month_order_and_years() {
     assert_eq!((last_year(2, refused[1] as u16, refused[0] as usize) as i128, refused[2]), (10_000, 10_000));
 }
 
-#[test]
-fn method_has_lengths_of_the_scratch() {
-    let method = without_commas(&document("docs/METHOD.md"));
-    let least = |n: i128| scratch_for(n as usize) as i128;
-    let shown = numbers(between(&method, "5n or more: ", ". Reading"));
-    let due: Vec<i128> = [72, 600].into_iter().flat_map(|n| [n, least(n), least(n) - 1]).collect();
-    assert_eq!(shown, due);
-    let longer = numbers(between(&method, "Of 72 months and a scratch of ", "."));
-    assert_eq!(longer, [8 * 72, 8, least(72), 8 * 72 - least(72)]);
-}
-
 /// Sixty months alike, of which none is dropped: the size, their first spread, twice the one and five times the other.
 #[test]
 fn method_has_a_group_that_stays_whole() {
@@ -291,59 +259,6 @@ fn method_has_a_group_that_stays_whole() {
     let (first, second) = two_spreads(&[shown[0] as u64; 60]);
     assert_eq!(shown, [shown[0], first.into(), 2 * shown[0], 5 * i128::from(first)]);
     assert!(first == second && shown[2] <= shown[3]);
-}
-
-/// A document's refusal sheet: its text, the numbers of its rows, and those of each order of checks.
-struct RefusalSheet {
-    text: String,
-    rows: Vec<i128>,
-    orders: Vec<Vec<i128>>,
-}
-
-impl RefusalSheet {
-    /// From Markdown: lines with a number in their first cell are rows, those with a number in their second alone orders of checks.
-    fn from_tables(text: &str) -> RefusalSheet {
-        let lines = text.lines().filter(|line| line.starts_with('|'));
-        let cells: Vec<[Vec<i128>; 2]> = lines.map(|line| [1, 2].map(|cell| numbers(line.split('|').nth(cell).expect("a cell")))).collect();
-        let rows = cells.iter().filter_map(|[first, _]| first.first().copied()).collect();
-        let without = cells.into_iter().filter(|[first, _]| first.is_empty()).map(|[_, second]| second);
-        let orders = without.filter(|order| !order.is_empty()).collect();
-        RefusalSheet { text: text.to_string(), rows, orders }
-    }
-
-    /// From the header: constants above 0 are rows, lines that are set in orders of checks.
-    fn from_header(text: &str) -> RefusalSheet {
-        let (words, constants) = text.split_once("#define VEPSJALM_SUCCESS 0\n").expect("the constants");
-        let orders = words.lines().filter(|line| line.starts_with("       ")).map(numbers).collect();
-        let rows = constants.lines().filter(|line| line.starts_with("#define ")).flat_map(numbers).collect();
-        RefusalSheet { text: words.to_string(), rows, orders }
-    }
-}
-
-/// All have the rows that this program can answer, 1 to 5 and 7 to 14; no order of checks has 6, and each sheet says that it is retired.
-#[test]
-fn refusal_sheets_are_without_6() {
-    let rows: Vec<i128> = (1..=5).chain(7..=14).collect();
-    assert_eq!(ROWS.map(i128::from), rows[..]);
-    let (readme, method, header) = (document("README.md"), document("docs/METHOD.md"), document("include/vepsjalm.h"));
-    let sheets = [
-        ("README", RefusalSheet::from_tables(between(&readme, "## The refusal sheet\n", "\n## "))),
-        ("METHOD", RefusalSheet::from_tables(between(&method, "**8.1 ", "**8.3 "))),
-        ("the header", RefusalSheet::from_header(between(&header, "/* The refusal sheet.", "vepsjalm_refusal_text(uint8_t"))),
-    ];
-    for (name, sheet) in &sheets {
-        assert_eq!(sheet.rows, rows, "{name}");
-        assert!(sheet.orders.len() == 6 && sheet.orders.iter().flatten().all(|row| rows.contains(row)), "{name}: {:?}", sheet.orders);
-        assert_eq!((&sheet.orders, &sheet.orders[0][..]), (&sheets[0].1.orders, &rows[..5]), "{name}");
-        let retired = |part: &str| part.contains("retired") && numbers(part).contains(&6);
-        assert!(sheet.text.split("\n\n").any(retired), "{name}");
-    }
-}
-
-/// Without the commas inside numbers.
-fn without_commas(text: &str) -> String {
-    let next = text.chars().skip(1).chain([' ']);
-    text.chars().zip(next).filter(|(c, next)| *c != ',' || !next.is_ascii_digit()).map(|(c, _)| c).collect()
 }
 
 /// What METHOD says of members' sheets: their length, where doubles start, the doubles that do not count, and a total.

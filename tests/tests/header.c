@@ -1,7 +1,8 @@
-/* Prints the constants of the header by name and the text of every refusal's number. Then it takes the plain desk file named on the command
-   line, and the first year that follows, through the functions for both forms: reading and writing it again, writing its series by calendar
-   month and reading that, moving the file forward and back. It reads a members' sheet of the series too, every other month revised from 1 to
-   its figure. It prints the answers, and then the bytes of the four files made, in this order. callers.rs builds it as C and as C++. */
+/* Prints the constants of the header by name, macros with an argument in a quotient too, and the text of every refusal's number. Then it takes
+   the plain desk file named on the command line, and the first year that follows, through the functions for both forms: reading and writing it
+   again, writing its series by calendar month and reading that, moving the file forward and back. It reads a members' sheet of the series too,
+   every other month revised from 1 to its figure. It prints the answers, and then the bytes of the four files made, in this order. callers.rs
+   builds it as C and as C++. */
 #include <inttypes.h>
 #include <stdio.h>
 #include <stdlib.h>
@@ -9,6 +10,9 @@
 #include "vepsjalm.h"
 
 #define SHOW(constant) printf("%s %ld\n", #constant, (long)(constant))
+
+/* A macro with an argument: its value, and a million divided by it as it stands, which shows whether its outer parentheses are there. */
+#define SHOW_LENGTH(macro) printf("%s %ld %ld\n", #macro, (long)(macro), (long)(1000000 / macro))
 
 struct series {
     int32_t figures[VEPSJALM_MOST_MONTHS];
@@ -40,12 +44,12 @@ static void show_constants(void)
     SHOW(VEPSJALM_FULL_WEIGHT);
     SHOW(VEPSJALM_EARLIEST_YEAR);
     SHOW(VEPSJALM_LATEST_YEAR);
-    SHOW(VEPSJALM_SCRATCH_FOR(71 + 1));
-    SHOW(VEPSJALM_FILE_LENGTH(71 + 1));
+    SHOW_LENGTH(VEPSJALM_SCRATCH_FOR(71 + 1));
+    SHOW_LENGTH(VEPSJALM_FILE_LENGTH(71 + 1));
     SHOW(VEPSJALM_LONGEST_FILE);
-    SHOW(VEPSJALM_COLUMNS_LENGTH(71 + 1));
+    SHOW_LENGTH(VEPSJALM_COLUMNS_LENGTH(71 + 1));
     SHOW(VEPSJALM_LONGEST_COLUMNS);
-    SHOW(VEPSJALM_SHEET_LENGTH(71 + 1));
+    SHOW_LENGTH(VEPSJALM_SHEET_LENGTH(71 + 1));
     SHOW(VEPSJALM_LONGEST_SHEET);
     SHOW(VEPSJALM_KIND_GAP);
     SHOW(VEPSJALM_KIND_FIGURE);

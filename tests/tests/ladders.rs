@@ -5,14 +5,10 @@ mod ladder;
 mod proved;
 
 use ladder::{every_set, figures, longer, weights, Part, AT_LEAST, COUNT, FIGURES, FITTING, LENGTH, PERIOD, WEIGHTS};
+use ladder::{DECOMPOSING, READING, WRITING};
 use proved::beside;
 use separate::decompose::{scratch_for, Lent};
 use separate::desk::bytes_of;
-
-// The order of the checks.
-const DECOMPOSING: [u8; 5] = [1, 2, 3, 4, 5];
-const READING: [u8; 9] = [7, 1, 2, 3, 8, 9, 4, 5, 10];
-const WRITING: [u8; 6] = [1, 2, 3, 4, 5, 10];
 
 const START: Part = &[(0, 12), (3, 0), (3, 13)];
 

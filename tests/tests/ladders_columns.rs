@@ -8,14 +8,10 @@ mod columns;
 
 use columns::beside;
 use ladder::{every_set, figures, longer, weights, Part};
-use ladder::{AT_LEAST, BAD_FIGURE, BAD_WEIGHT, COUNT, FIGURES, FITTING, LATER, LENGTH, PERIOD, WEIGHTS};
+use ladder::{AT_LEAST, BAD_FIGURE, BAD_WEIGHT, COUNT, FIGURES, FITTING, LATER, LENGTH, PERIOD, READING_COLUMNS, WEIGHTS, WRITING_COLUMNS};
 use separate::columns::{by_month, bytes_of};
 use separate::desk;
 use std::collections::BTreeMap;
-
-// The order of the checks; moving, in both directions, has that of reading.
-const READING: [u8; 10] = [7, 1, 2, 3, 8, 11, 9, 4, 5, 10];
-const WRITING: [u8; 7] = [1, 2, 3, 11, 4, 5, 10];
 
 const START: Part = &[(0, 12), (0, 5), (3, 0), (3, 13)];
 /// First years that are in and out for every count and start month here: 600 months from December 9949 end in November 9999, 72 months
@@ -73,7 +69,7 @@ fn the_lowest_bad_month_is_not_the_first_in_the_file() {
 fn reading() {
     let files = Files::new();
     let parts = [COUNT, START, PERIOD, YEAR, LENGTH, FIGURES, WEIGHTS, AT_LEAST, AT_LEAST, LEFT];
-    every_set(&READING, parts, |name, [count, start, period, year, length, bad, above, figures_room, weights_room, left]| {
+    every_set(&READING_COLUMNS, parts, |name, [count, start, period, year, length, bad, above, figures_room, weights_room, left]| {
         let file = files.changed([count, start, period, year, length, bad, above, left]);
         beside::read(name, &file, longer(count as usize, figures_room), longer(count as usize, weights_room))
     });
@@ -82,7 +78,7 @@ fn reading() {
 #[test]
 fn writing() {
     let parts = [COUNT, START, YEAR, FIGURES, WEIGHTS, FITTING, AT_LEAST];
-    every_set(&WRITING, parts, |name, [count, start, year, bad, above, weights_length, room]| {
+    every_set(&WRITING_COLUMNS, parts, |name, [count, start, year, bad, above, weights_length, room]| {
         let n = count as usize;
         let mut weights = weights(n, above);
         weights.resize(longer(n, weights_length), 0);
@@ -96,7 +92,7 @@ fn moving_forward() {
     let left: Part = &[(0, isize::MAX), (9, 5), (9, 4), (7, 3), (7, 2), (7, 1), (7, 0)];
     let room: Part = &[(0, 0), (0, 5), (4, -1), (4, -2)];
     let parts = [COUNT, START, PERIOD, YEAR, LENGTH, FIGURES, WEIGHTS, room, left];
-    every_set(&READING, parts, |name, [count, start, period, year, length, bad, above, room, left]| {
+    every_set(&READING_COLUMNS, parts, |name, [count, start, period, year, length, bad, above, room, left]| {
         let n = count as usize;
         let mut old = desk::bytes_of(&figures(n, bad), start as u8, period as u8, &weights(n, above));
         old.resize(longer(old.len(), length), 0);
@@ -111,7 +107,7 @@ fn moving_back() {
     let files = Files::new();
     let room: Part = &[(0, 0), (0, 2), (0, 5), (4, -1)];
     let parts = [COUNT, START, PERIOD, YEAR, LENGTH, FIGURES, WEIGHTS, room, LEFT];
-    every_set(&READING, parts, |name, [count, start, period, year, length, bad, above, room, left]| {
+    every_set(&READING_COLUMNS, parts, |name, [count, start, period, year, length, bad, above, room, left]| {
         let new = files.changed([count, start, period, year, length, bad, above, left]);
         beside::back(name, &new, longer(4 + 6 * count as usize, room)).0
     });

@@ -8,7 +8,7 @@ mod ladder;
 mod sheet;
 
 use doubles::{raw, HALF, MINUS_ZERO, NOT_A_NUMBER, ONE};
-use ladder::{every_set, longer, Part, AT_LEAST, COUNT, LENGTH};
+use ladder::{every_set, longer, Part, AT_LEAST, COUNT, LENGTH, READING_SHEET};
 use separate::sheet::{bytes_of, Cell};
 use sheet::beside;
 use std::collections::BTreeMap;
@@ -16,7 +16,6 @@ use std::collections::BTreeMap;
 /// The places of two cells that may be bad. In the order of the checks a row of the later one is written with 100 added.
 const EARLY: usize = 3;
 const LATE: usize = 61;
-const READING: [u8; 12] = [7, 1, 2, 3, 9, 4, 12, 13, 14, 112, 113, 114];
 
 const START: Part = &[(0, 1), (0, 12), (3, 0), (3, 13)];
 /// How many bytes are left at most. With the sizes left, rows before 9 can still be true; otherwise 7 comes before them all.
@@ -69,8 +68,10 @@ fn reading() {
             }
         }
     }
+    let [.., a, b, c] = READING_SHEET;
+    let order = [&READING_SHEET[..], &[100 + a, 100 + b, 100 + c]].concat();
     let parts = [COUNT, START, LENGTH, AT_LEAST, EARLY_CELL, LATE_CELL, LEFT];
-    every_set(&READING, parts, |name, [count, start, length, room, early, late, left]| {
+    every_set(&order, parts, |name, [count, start, length, room, early, late, left]| {
         let mut sheet = sheets[&[count, early, late]].clone();
         sheet[2] = start as u8;
         sheet.resize(longer(sheet.len(), length), 0);

@@ -3,7 +3,7 @@
 //! occur.
 
 use separate::decompose::decompose_fitting;
-use separate::exact::{distance, exact_pass, exact_pass_with, exact_working, FourDistances};
+use separate::exact::{distance, exact_pass, exact_pass_with, exact_working, FourDistances, PASS_B_LIMITS, PASS_LIMITS};
 use separate::exact_b::{exact_pass_b, DistanceB, Held};
 use separate::fraction::Fraction;
 use separate::generators::{
@@ -77,6 +77,7 @@ fn halves_of_a_grain_occur() {
 
 #[test]
 fn the_passes_keep_their_distance() {
+    let [t2_limit, s2_limit] = PASS_LIMITS.map(|(_, limit)| limit);
     let mut greatest: BTreeMap<SeasonalFilter, [f64; 2]> = BTreeMap::new();
     let mut series: Vec<(String, Vec<i64>)> = grain_cases().into_iter().map(|c| (c.name, c.grains)).collect();
     for case in cases().into_iter().step_by(7) {
@@ -91,8 +92,8 @@ fn the_passes_keep_their_distance() {
             let (steps, exact) = (pass_with(&x, filter), exact_pass_with(&x, filter));
             let t2 = distance(&steps.t2.values, &exact.t2);
             let s2 = distance(&steps.s2.values, &exact.s2);
-            assert!(t2.is_within(4), "{name} {filter}");
-            assert!(s2.is_within(10), "{name} {filter}");
+            assert!(t2.is_within(t2_limit), "{name} {filter}");
+            assert!(s2.is_within(s2_limit), "{name} {filter}");
             let so_far = greatest.entry(filter).or_default();
             *so_far = [so_far[0].max(t2.greatest.roughly()), so_far[1].max(s2.greatest.roughly())];
         }
@@ -102,10 +103,10 @@ fn the_passes_keep_their_distance() {
     assert!(greatest.values().all(|[_, s2]| *s2 > 1.0));
 }
 
-/// Pass B with its weights and neighbours held: T2 within 6 grains, S2 within
-/// 13.
+/// Pass B with its weights and neighbours held.
 #[test]
 fn pass_b_keeps_its_distance() {
+    let [t2_limit, s2_limit] = PASS_B_LIMITS.map(|(_, limit)| limit);
     let mut greatest = [(0.0f64, String::new()), (0.0f64, String::new())];
     let mut beyond_when_left_out = [0, 0];
     for case in cases() {
@@ -114,8 +115,8 @@ fn pass_b_keeps_its_distance() {
         let exact = exact_pass_b(&tables.b1, &of_si1, &of_si2);
         let t2 = DistanceB::measure(&tables.b7, &exact.t2);
         let s2 = DistanceB::measure(&tables.b10, &exact.s2);
-        assert!(t2.is_within(6), "{}", case.name);
-        assert!(s2.is_within(13), "{}", case.name);
+        assert!(t2.is_within(t2_limit), "{}", case.name);
+        assert!(s2.is_within(s2_limit), "{}", case.name);
         for (best, d) in greatest.iter_mut().zip([t2, s2]) {
             if d.roughly() > best.0 {
                 *best = (d.roughly(), format!("{} month {}", case.name, d.place));
@@ -125,11 +126,11 @@ fn pass_b_keeps_its_distance() {
         // SI2 the seasonal.
         if !of_si1.is_empty() {
             let without = exact_pass_b(&tables.b1, &Held::new(), &of_si2);
-            beyond_when_left_out[0] += usize::from(!DistanceB::measure(&tables.b7, &without.t2).is_within(6));
+            beyond_when_left_out[0] += usize::from(!DistanceB::measure(&tables.b7, &without.t2).is_within(t2_limit));
         }
         if !of_si2.is_empty() {
             let without = exact_pass_b(&tables.b1, &of_si1, &Held::new());
-            beyond_when_left_out[1] += usize::from(!DistanceB::measure(&tables.b10, &without.s2).is_within(13));
+            beyond_when_left_out[1] += usize::from(!DistanceB::measure(&tables.b10, &without.s2).is_within(s2_limit));
         }
     }
     println!("greatest distances of T2 and S2 in pass B: {greatest:?}");

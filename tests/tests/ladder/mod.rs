@@ -6,6 +6,15 @@
 /// What one part of an input can be: each time the row that it makes true, 0 for none, and a value.
 pub type Part = &'static [(u8, isize)];
 
+// The orders of the checks. Moving, in both directions, has that of reading by calendar month; of a members' sheet the last three rows are those
+// of each cell.
+pub const DECOMPOSING: [u8; 5] = [1, 2, 3, 4, 5];
+pub const READING: [u8; 9] = [7, 1, 2, 3, 8, 9, 4, 5, 10];
+pub const WRITING: [u8; 6] = [1, 2, 3, 4, 5, 10];
+pub const READING_COLUMNS: [u8; 10] = [7, 1, 2, 3, 8, 11, 9, 4, 5, 10];
+pub const WRITING_COLUMNS: [u8; 7] = [1, 2, 3, 11, 4, 5, 10];
+pub const READING_SHEET: [u8; 9] = [7, 1, 2, 3, 9, 4, 12, 13, 14];
+
 pub const COUNT: Part = &[(0, 72), (0, 600), (1, 71), (2, 601)];
 pub const PERIOD: Part = &[(0, 12), (8, 4)];
 /// How much longer a file is than its count asks.
