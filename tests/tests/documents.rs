@@ -8,7 +8,7 @@ mod document;
 
 use document::{between, cells, document, numbers, root, without_commas};
 use separate::calendar::labels;
-use separate::columns::{by_month, last_year};
+use separate::columns::by_month;
 use separate::decompose::decompose_fitting;
 use separate::desk::bytes_of;
 use separate::extremes::{neighbours, replacement, RunValue};
@@ -235,7 +235,7 @@ fn method_has_weights_by_the_years_from_july() {
 }
 
 #[test]
-fn method_has_month_order_and_years() {
+fn method_has_month_order() {
     let method = document("docs/METHOD.md");
     let example = between(&method, "75 months from March: ", "\n");
     let order = by_month(&(0..75).collect::<Vec<i128>>(), 3);
@@ -245,10 +245,6 @@ fn method_has_month_order_and_years() {
     assert_eq!(shown("March ", ", seven,"), [order[12], order[13], order[18]]);
     let april = shown("So month ", ".");
     assert_eq!((order[*april.last().expect("a place") as usize], april.len()), (april[0], 5));
-    let years = numbers(between(&method, "From March ", ", and 12 goes"));
-    assert_eq!(last_year(3, years[0] as u16, years[1] as usize) as i128, years[2]);
-    let refused = numbers(between(&method, "is not 1 to 9999 (7.5) | 0 | ", " |"));
-    assert_eq!((last_year(2, refused[1] as u16, refused[0] as usize) as i128, refused[2]), (10_000, 10_000));
 }
 
 /// Sixty months alike, of which none is dropped: the size, their first spread, twice the one and five times the other.

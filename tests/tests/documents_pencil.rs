@@ -94,7 +94,7 @@ fn exact_at(table: &Fractions, t: usize) -> Fraction {
 
 // The lines.
 
-/// Results there, next to it and so many months away, on both sides; with exact ones in brackets.
+/// Results there, next to it and so many months away, on both sides; exact, but where the exact one stands in brackets.
 fn check_around(table: &Fractions, t: usize, gives: &str) {
     for piece in in_digits(gives).split(", ") {
         let said = numbers(&without_brackets(piece));
@@ -105,7 +105,8 @@ fn check_around(table: &Fractions, t: usize, gives: &str) {
         };
         for month in [t - away, t + away] {
             assert_eq!(i128::from(table.rounded().at(month)), said[0], "{gives}: month {month}");
-            assert!(in_brackets(piece).is_none_or(|exact| exact_at(table, month) == fraction(exact)), "{gives}: month {month}");
+            let exact = in_brackets(piece).map_or(Fraction::whole(said[0]), fraction);
+            assert_eq!(exact_at(table, month), exact, "{gives}: month {month}");
         }
     }
 }
@@ -149,7 +150,7 @@ fn check_ends(series: Series, what: &str, gives: &str) {
     }
 }
 
-/// The last results of a run whose last value is named; those before are zero.
+/// The last results of a run whose last value is named; those before are zero. Exact, but where the exact ones stand in brackets.
 fn check_last_of_a_run(series: Series, what: &str, gives: &str) {
     let said = behind_the_name(what);
     let (number, months) = said.split_last().expect("a number");
@@ -160,11 +161,10 @@ fn check_last_of_a_run(series: Series, what: &str, gives: &str) {
     let results: Vec<i128> = (0..=last).filter(|t| t % 12 == last % 12).map(|t| table.rounded().at(t).into()).collect();
     let (zeros, worked) = results.split_at(results.len() - shown[0] as usize);
     assert_eq!((&shown[1..], zeros.iter().all(|&zero| zero == 0)), (worked, true), "{what}");
-    let exact = in_brackets(gives).map_or(Vec::new(), |list| list.split(", ").map(fraction).collect());
-    for (back, exact) in exact.iter().rev().enumerate() {
-        assert_eq!(&exact_at(&table, last - 12 * back), exact, "{what}");
-    }
-    assert!(exact.is_empty() || exact.len() == worked.len(), "{what}");
+    let in_full = worked.iter().map(|&result| Fraction::whole(result)).collect();
+    let exact: Vec<Fraction> = in_brackets(gives).map_or(in_full, |list| list.split(", ").map(fraction).collect());
+    let due: Vec<Fraction> = (0..worked.len()).rev().map(|back| exact_at(&table, last - 12 * back)).collect();
+    assert_eq!(exact, due, "{what}");
 }
 
 /// All results of a run with a number at one of its months.
@@ -173,9 +173,11 @@ fn check_a_run(what: &str, gives: &str) {
     let &[months, number, place, many] = &said[..] else { panic!("{what}") };
     assert_eq!((what.split(' ').find_map(ordinal), months), (Some(place as usize / 12), 12 * many), "{what}");
     let series = Series { months: months as usize, place: place as usize };
-    let table = over_runs(&Placed::whole_series(series.of(series.place, number)), filter_named(what)).rounded();
-    let worked: Vec<i128> = (0..series.months).step_by(12).map(|t| table.at(t).into()).collect();
-    assert_eq!(numbers(&in_digits(gives)), [vec![many], worked].concat(), "{what}");
+    let table = over_runs(&Placed::whole_series(series.of(series.place, number)), filter_named(what));
+    let shown = numbers(&in_digits(gives));
+    assert_eq!(shown[0], many, "{what}");
+    let worked: Vec<Fraction> = (0..series.months).step_by(12).map(|t| exact_at(&table, t)).collect();
+    assert_eq!(shown[1..].iter().map(|&result| Fraction::whole(result)).collect::<Vec<_>>(), worked, "{what}");
 }
 
 /// A table that has the months of SI1 only.
@@ -188,12 +190,13 @@ fn check_part_of_a_table(what: &str, gives: &str) {
     for (month, piece) in said[4..said.len() - 2].iter().zip(gives.split("; ")) {
         let (results, at) = piece.split_once(" at t = ").expect("months");
         if results != "the same" {
-            due = numbers(results);
+            due = numbers(results).into_iter().map(Fraction::whole).collect();
         }
         let series = Series { months: months as usize, place: *month as usize };
         let table = Placed::whole_series(series.of(series.place, number)).part(first as usize, last as usize);
-        let worked = over_runs(&table, filter_named(what)).rounded();
-        assert_eq!(numbers(at).iter().map(|&t| worked.at(t as usize).into()).collect::<Vec<i128>>(), due, "{piece}");
+        let worked = over_runs(&table, filter_named(what));
+        let results: Vec<Fraction> = numbers(at).iter().map(|&t| exact_at(&worked, t as usize)).collect();
+        assert_eq!(results, due, "{piece}");
     }
     let proved = proved();
     let stated = numbers(between(&proved, "by3x3 c v months = ", "\n").replace("3x3", "").as_str());
@@ -247,11 +250,13 @@ fn check_dropping(what: &str, gives: &str) {
     assert_eq!(groups.split(';').count(), gives.split(';').count());
     for (group, result) in groups.split(';').zip(gives.split(';')) {
         let said = numbers(&in_digits(group));
-        let sizes: Vec<u64> = if group.contains("seven") {
-            said.chunks(2).flat_map(|pair| vec![pair[1] as u64; pair[0] as usize]).collect()
+        let (sizes, stated): (Vec<u64>, String) = if let (true, &[many, size, one, other]) = (group.contains("seven"), &said[..]) {
+            let sizes = [vec![other as u64; one as usize], vec![size as u64; many as usize]].concat();
+            (sizes, format!("{other} ∷ replicate {many} {size}"))
         } else {
-            said.iter().map(|&size| size as u64).collect()
+            (said.iter().map(|&size| size as u64).collect(), said.iter().map(|size| format!("{size} ∷ ")).collect::<String>() + "[]")
         };
+        assert_proved(&format!("(dropping ({stated}))"));
         let (first, second) = two_spreads(&sizes);
         let stay = sizes.iter().filter(|&&size| 2 * size <= 5 * first).count();
         assert_eq!(numbers(result), [first.into(), stay as i128, second.into()], "{group}");

@@ -265,6 +265,9 @@ fn years_of_a_series() {
     assert_eq!(shown, [first.into(), months, last, start - one, months - one_more, before, year, before / year]);
     assert_eq!(last, i128::from(first) + before / year);
     assert_eq!(month(between(example, "end in ", " ")), labels(month(from), n)[n - 1].month);
+    // A series from December has no other month in its first year.
+    let of_the_first_year: Vec<i128> = (0..).zip(labels(12, n)).filter(|(_, label)| label.year == 0).map(|(t, _)| t).collect();
+    assert_eq!(numbers(between(&text, "which is the year of t = ", ";")), of_the_first_year);
     assert_eq!(numbers(between(&text, "Both years are ", " (")), [EARLIEST_YEAR as i128, LATEST_YEAR as i128]);
     let refused = write_columns(&[0; 72], 1, 0, &[0; 72], usize::MAX).expect_err("no year 0");
     assert_eq!(numbers(between(&text, "(row ", " of")), [i128::from(refused.number)]);
@@ -369,6 +372,7 @@ fn printed_lines() {
     let figures = book_series();
     let tables = decompose_fitting(&figures, 10).expect("tables");
     let columns: Vec<Vec<i128>> = names.split(", ").map(|name| result(&tables, name)).collect();
+    assert_eq!(names.split(", ").last(), Some(between(&part("7.1"), "The weights are the caller's, ", " where")));
     let text = printed(&desk::bytes_of(&figures, 10, 12, &[1000; 114]));
     for (t, line) in text.lines().skip(1).enumerate() {
         let due = [t as i128, figures[t].into()].into_iter().chain(columns.iter().map(|column| column[t]));
@@ -452,4 +456,37 @@ fn parts_that_are_cited_are_there() {
         let missing: Vec<&String> = list.iter().filter(|number| !there.contains(number)).collect();
         assert!(missing.is_empty(), "{name} cites {missing:?}");
     }
+}
+
+/// The title of the part that a text cites behind some words.
+fn title_cited(number: &str, before: &str) -> String {
+    let text = part(number);
+    let (_, behind) = text.split_once(before).unwrap_or_else(|| panic!("{number}: {before}"));
+    let cited = cited(behind).into_iter().next().expect("a part");
+    assert!(behind.starts_with(&cited), "{number}: {before}");
+    part(&cited).trim_start_matches(|c: char| !c.is_alphabetic()).to_string()
+}
+
+/// Parts are cited for what their titles say.
+#[test]
+fn parts_that_are_cited_are_meant() {
+    for (number, before, title) in [
+        ("7.5", "in month order (", "Month order"),
+        ("7.5", "signs are as in ", "Layout"),
+        ("7.5", "(row 11 of ", "The refusal sheet"),
+        ("8.1", "is not 1 to 9999 (", "By calendar month"),
+        ("8.1", "a byte that is not zero (", "The members' sheet"),
+        ("8.1", "a double of a cell does not count (", "Doubles that count"),
+        ("8.1", "there is no such group (", "In no group is every month dropped"),
+        ("8.1", "not its place in month order (", "Month order"),
+        ("8.2", "row 4 of the output (", "Moving"),
+        ("11", "sum of the sizes of changes (", "The length of the final trend's filter"),
+        ("11", "sum of the sizes of changes over twelve months (", "The seasonal filter of pass D"),
+        ("11", "the filter of ", "The seasonal filter of pass D"),
+    ] {
+        assert!(title_cited(number, before).starts_with(title), "{number}: {before}");
+    }
+    let method = document("docs/METHOD.md");
+    assert_eq!(between(&method, "the rounding by request ", ";"), between(&method, "1.3 request ", " too"));
+    assert_eq!(method.matches("(document ").count(), method.matches("(document 01, ").count());
 }
