@@ -33,9 +33,11 @@ fn comment<'a>(header: &'a str, function: &str) -> &'a str {
 fn filters_by_their_names() {
     let [nine, thirteen, twenty_three] = LENGTHS;
     let [short, plain, long] = SEASONAL_FILTERS.map(|filter| filter.to_string());
-    let of_a_pass = format!("The filters are 2x12, {short}, {plain} and Henderson's with Musgrave's ends: {T2_TERMS} terms in a pass, and {nine}, {thirteen} or {twenty_three} for the final trend.");
-    let chosen = format!("The last pass takes {short}, {plain} or {long} for the final seasonal.");
-    assert!(header().contains(&format!("{of_a_pass} {chosen}")), "{of_a_pass} {chosen}");
+    let of_a_pass = format!("The filters are 2x12, {short}, {plain} and Henderson's with Musgrave's ends: {T2_TERMS} terms in a pass,");
+    let of_the_trend = format!("and {nine}, {thirteen} or {twenty_three} for the final trend.");
+    let of_the_seasonal = format!("The last pass takes {short}, {plain} or {long} for the final seasonal.");
+    let words = [of_a_pass, of_the_trend, of_the_seasonal].join(" ");
+    assert!(header().contains(&words), "{words}");
 }
 
 /// Ranges, as 1 to 12, and the numbers that are told after a success or a refusal.
@@ -53,6 +55,9 @@ fn ranges_and_answers() {
     let told: Vec<i64> = words.windows(3).filter(is_told).filter_map(|three| number(three[0])).collect();
     assert!(told.len() > 20 && told.iter().all(|&number| number == 0), "{told:?}");
     assert_eq!(numbers(between(&header, "in the series, counted from ", ";")), [0]);
+    assert_eq!(numbers(between(&header, "the last start month, the first being ", ";")), [due[0][0].into()]);
+    assert_eq!(numbers(between(&header, "negative zero is ", ".")), [sheet::whole_in((-0.0f64).to_le_bytes()).expect("a figure").into()]);
+    assert_eq!(numbers(between(&header, "the major number is ", " while")), numbers(between(&header, "VERSION_MAJOR ", " #")));
     assert_eq!(numbers(between(&header, "is cut to ", " by C")), [u8::BITS.into()]);
     assert_eq!(numbers(between(&header, "as first year to ", ":")), [u16::BITS.into()]);
 }
@@ -88,7 +93,8 @@ fn layouts_are_those_of_method() {
         table(&part, "| bytes | what |").iter().flat_map(|line| [numbers(line[1]), vec![size(line[0])]].concat()).collect()
     };
     assert_eq!(numbers(between(comment(&header, "read"), "It has ", ", all low byte first")), of_method("7.1")[..]);
-    assert_eq!(numbers(between(comment(&header, "read_columns"), "It has ", " bytes more")), [columns::length_of(0) as i128 - desk::length_of(0) as i128]);
+    let more = columns::length_of(0) - desk::length_of(0);
+    assert_eq!(numbers(between(comment(&header, "read_columns"), "It has ", " bytes more")), [more as i128]);
     let &[count, start, kind, double, cell] = &of_method("7.10")[..] else { panic!("the layout of a members' sheet") };
     let standard = numbers(between(&part("7.10"), "(IEEE ", ","))[0];
     assert_eq!(numbers(between(comment(&header, "read_sheet"), "It has ", " bytes each")), [count, start, kind, standard, double]);
@@ -144,12 +150,14 @@ fn promises_of_decomposing() {
 #[test]
 fn slices_and_arguments() {
     let header = header();
-    let arguments: Vec<&str> = between(&header, "uint8_t vepsjalm_decompose(", ");").split(',').map(|argument| argument.rsplit([' ', '*']).next().expect("a name")).collect();
+    let declared = between(&header, "uint8_t vepsjalm_decompose(", ");").split(',');
+    let arguments: Vec<&str> = declared.map(|argument| argument.rsplit([' ', '*']).next().expect("a name")).collect();
     assert_eq!(numbers(between(&header, "in a struct instead of ", " arguments")), [arguments.len() as i128]);
     let is_slice = |word: &&&str| word.len() == 3 && word.starts_with(['b', 'c', 'd']) && word[1..].bytes().all(|byte| byte.is_ascii_digit());
     let words = words(&header);
     let named: Vec<&&str> = words.iter().filter(is_slice).collect();
     assert!(named.len() > 20 && named.iter().all(|name| arguments.contains(name)), "{named:?}");
-    let ranges: Vec<[&str; 2]> = words.windows(3).filter(|three| three[1] == "to" && is_slice(&&three[0])).map(|three| [three[0], three[2]]).collect();
+    let ranges = words.windows(3).filter(|three| three[1] == "to" && is_slice(&&three[0]));
+    let ranges: Vec<[&str; 2]> = ranges.map(|three| [three[0], three[2]]).collect();
     assert!(ranges.len() > 1 && ranges.iter().all(|range| *range == ["d10", "d13"]), "{ranges:?}");
 }

@@ -8,7 +8,7 @@ use separate::fraction::Fraction;
 use separate::noise::Noise;
 use separate::pass::{henderson, over_runs, pass, two_by_twelve, Fractions, Placed};
 use separate::rounding::{is_half, nearest_even};
-use separate::rows::{SeasonalFilter, ThreeByFive, LENGTHS, SEASONAL_FILTERS, T2_TERMS};
+use separate::rows::{SeasonalFilter, LENGTHS, SEASONAL_FILTERS, T2_TERMS};
 use separate::seasonality::{chosen, questions, sum_of_yearly_changes, Question};
 use separate::spread::{correction, two_spreads, units, weight};
 
@@ -405,12 +405,12 @@ fn heading_names_lines() {
     let heading = between(&text, "(", ")");
     let other = LENGTHS.into_iter().filter(|&terms| terms != T2_TERMS).map(|terms| terms as i128);
     assert_eq!(numbers(between(heading, "on Henderson's ", " terms")), other.collect::<Vec<_>>());
-    let named = [format!("σ {},", numbers(between(heading, "of σ ", ","))[0]), format!("weight {}", numbers(between(heading, "of weight ", ","))[0])];
-    for name in named {
+    let sigma = format!("σ {},", between(heading, "of σ ", ","));
+    let weight = format!("weight {}", between(heading, "of weight ", ","));
+    for name in [sigma, weight] {
         assert!(lines().iter().any(|[what, _]| what.contains(&name)), "{name}");
     }
-    for name in [between(heading, "on ", " by month"), between(heading, "by month, on ", ",")] {
-        let filter = filter_named(&name[name.find('×').expect("a filter") - 1..]);
-        assert_ne!(filter, ThreeByFive, "{name}");
-    }
+    let name_in = |words: &str| lines().iter().find(|[what, _]| what.contains(words)).map(|[what, _]| shown_name(filter_named(what)));
+    assert_eq!(Some(between(heading, "lengths, on ", " by month").to_string()), name_in(" of a table "));
+    assert_eq!(Some(between(heading, "by month, on ", ",").to_string()), name_in("values of a run"));
 }

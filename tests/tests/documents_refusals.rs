@@ -122,7 +122,10 @@ fn limits(row: u8) -> Vec<i128> {
             vec![months[0], months[months.len() - 1]]
         }
         5 => [i32::MIN, i32::MAX].map(|bad| last_good(0, bad.into(), |figure| of_figure(0, figure as i32).0 != 5)).to_vec(),
-        7 => FORMS.map(|(bytes, answer)| (0..).find(|&length| answer(&bytes(FEWEST_MONTHS)[..length]).0 != 7).expect("a length") as i128).to_vec(),
+        7 => {
+            let passes = |(bytes, answer): Form, length: usize| answer(&bytes(FEWEST_MONTHS)[..length]).0 != 7;
+            FORMS.map(|form| (0..).find(|&length| passes(form, length)).expect("a length") as i128).to_vec()
+        }
         8 => bytes_past(8, of_period),
         9 => FORMS.map(accepted_length).concat(),
         10 => vec![last_good(0, u16::MAX.into(), |weight| of_weight(0, weight as u16).0 != 10)],
@@ -155,9 +158,14 @@ fn rows_by_their_numbers() {
         // README has no numbers of the kinds.
         assert_eq!(numbers(&words[0]), if *row == 12 { Vec::new() } else { due }, "README, row {row}: {}", words[0]);
         let has_place = cells[2].contains("place");
-        assert_eq!((numbers(&cells[1]), words[0].contains("place of the first")), (if has_place { vec![] } else { vec![0] }, has_place), "row {row}");
+        assert_eq!(numbers(&cells[1]), if has_place { vec![] } else { vec![0] }, "METHOD, row {row}");
+        assert_eq!(words[0].contains("place of the first"), has_place, "README, row {row}");
     }
-    assert_eq!(numbers(between(&part("8.1"), "rows without a place say ", ".")), [of_series(&[], 1).1 as i128]);
+    let no_place = [of_series(&[], 1).1 as i128];
+    assert_eq!(numbers(between(&part("8.1"), "rows without a place say ", ".")), no_place);
+    assert_eq!(numbers(between(&readme, "a row without one has place ", ".")), no_place);
+    let first_month = [of_figure(0, i32::MAX).1 as i128];
+    assert_eq!(numbers(between(&readme, "Places are months of the series, counted from ", ",")), first_month);
     let header = document("include/vepsjalm.h");
     let (headers, lengths) = (limits(7), limits(9));
     assert_eq!(numbers(between(&header, "A file's header has ", "The place is")), [headers[0], headers[1], lengths[1], headers[2], lengths[5]]);
@@ -288,9 +296,10 @@ fn orders_of_the_checks() {
         ("reading a members' sheet", &READING_SHEET),
     ];
     for (name, sheet) in sheets() {
-        let orders: Vec<(&str, &[i128])> = sheet.orders.iter().map(|(words, order)| (words.split(',').next().expect("words"), &order[..])).collect();
+        let orders: Vec<(&str, Vec<i128>)> =
+            sheet.orders.iter().map(|(words, order)| (words.split(',').next().expect("words"), order.clone())).collect();
         let due = ladders.map(|(words, order)| (words, order.iter().map(|&row| i128::from(row)).collect::<Vec<_>>()));
-        assert_eq!(orders, due.iter().map(|(words, order)| (*words, &order[..])).collect::<Vec<_>>(), "{name}");
+        assert_eq!(orders, due, "{name}");
         assert!(sheet.orders[3].0.contains(", moving"), "{name}");
     }
     // What decomposing could still refuse of a series that was read.

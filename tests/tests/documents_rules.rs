@@ -225,7 +225,8 @@ fn layouts_of_members_sheets() {
 #[test]
 fn lengths_of_files() {
     let [plain, by_month, sheet] = [desk::length_of, columns::length_of, sheet::length_of].map(first_and_each);
-    let found: Vec<(String, Vec<[usize; 2]>)> = parts().into_iter().map(|(number, text)| (number, lengths(&text))).filter(|(_, list)| !list.is_empty()).collect();
+    let of_parts = parts().into_iter().map(|(number, text)| (number, lengths(&text)));
+    let found: Vec<(String, Vec<[usize; 2]>)> = of_parts.filter(|(_, list)| !list.is_empty()).collect();
     let due = [
         ("7.1", vec![plain]),
         ("7.3", vec![plain, plain]),
@@ -242,7 +243,8 @@ fn lengths_of_files() {
         assert_eq!(shown, due.concat(), "{number}");
     }
     let readme = without_commas(&document("README.md"));
-    let shown: Vec<Vec<i128>> = readme.lines().filter(|line| line.contains("bytes in all, ")).map(|line| numbers(line.split('.').next().expect("a sentence"))).collect();
+    let sentences = readme.lines().filter(|line| line.contains("bytes in all, ")).map(|line| line.split('.').next().expect("a sentence"));
+    let shown: Vec<Vec<i128>> = sentences.map(numbers).collect();
     let due = [desk::length_of, columns::length_of, sheet::length_of].map(|length_of: fn(usize) -> usize| {
         let [first, each] = first_and_each(length_of);
         [first, each, length_of(FEWEST_MONTHS), FEWEST_MONTHS].map(|number| number as i128)
@@ -315,7 +317,8 @@ fn lengths_of_lent_slices() {
         assert_eq!((enough, few), (shown[1] * n, enough - 1));
         assert_eq!([enough, few].map(|length| answer_on(n as usize, "the scratch", length as usize)), [(0, 0), (row, 0)], "{n} months");
     }
-    let lending: Vec<String> = parts().into_iter().filter(|(number, text)| number.starts_with("7.") && is_lent(text)).map(|(number, _)| number).collect();
+    let lending = parts().into_iter().filter(|(number, text)| number.starts_with("7.") && is_lent(text));
+    let lending: Vec<String> = lending.map(|(number, _)| number).collect();
     assert_eq!(between(&text, "Reading, writing and moving: ", ".\n"), lending.join(", "));
 }
 
@@ -458,12 +461,11 @@ fn parts_that_are_cited_are_there() {
     }
 }
 
-/// The title of the part that a text cites behind some words.
-fn title_cited(number: &str, before: &str) -> String {
-    let text = part(number);
-    let (_, behind) = text.split_once(before).unwrap_or_else(|| panic!("{number}: {before}"));
+/// The title and the words of the part that a text cites behind some words.
+fn part_cited(text: &str, before: &str) -> String {
+    let (_, behind) = text.split_once(before).unwrap_or_else(|| panic!("{before}"));
     let cited = cited(behind).into_iter().next().expect("a part");
-    assert!(behind.starts_with(&cited), "{number}: {before}");
+    assert!(behind.starts_with(&cited), "{before}");
     part(&cited).trim_start_matches(|c: char| !c.is_alphabetic()).to_string()
 }
 
@@ -484,7 +486,16 @@ fn parts_that_are_cited_are_meant() {
         ("11", "sum of the sizes of changes over twelve months (", "The seasonal filter of pass D"),
         ("11", "the filter of ", "The seasonal filter of pass D"),
     ] {
-        assert!(title_cited(number, before).starts_with(title), "{number}: {before}");
+        assert!(part_cited(&part(number), before).starts_with(title), "{number}: {before}");
+    }
+    let header = document("include/vepsjalm.h");
+    for (before, title) in [
+        ("how noisy the series is (docs/METHOD.md, ", "The length of the final trend's filter"),
+        ("how noisy the series is (docs/METHOD.md, 4.5 and ", "The seasonal filter of pass D"),
+        ("replaced by means of their neighbours (", "Extreme values of SI1 and SI2"),
+        ("a half to the even one (", "Rounding to a grain"),
+    ] {
+        assert!(part_cited(&header, before).starts_with(title), "the header: {before}");
     }
     let method = document("docs/METHOD.md");
     assert_eq!(between(&method, "the rounding by request ", ";"), between(&method, "1.3 request ", " too"));
