@@ -30,8 +30,8 @@ cells (m ∷ months) = m .first ++ m .second ++ cells months
 
 abbrev pub sheetWith : ℕ → ℕ → List Month → List ℕ
 sheetWith start t months =
-    72 ∷ 0 ∷ start ∷ (replicate t 1 ++ (map (λ (m : Month). m .kind) months ++ (replicate (72 - t - length months) 1
-    ++ (replicate (16 * t) 0 ++ (cells months ++ replicate (16 * (72 - t - length months)) 0)))))
+    72 ∷ 0 ∷ start ∷ replicate t 1 ++ map (λ (m : Month). m .kind) months ++ replicate (72 - t - length months) 1
+    ++ replicate (16 * t) 0 ++ cells months ++ replicate (16 * (72 - t - length months)) 0
 
 -- eight zero bytes; negative zero; 0.5
 abbrev pub zeros : List ℕ
@@ -69,12 +69,12 @@ pub record SizeRows : Type 0 where
   pub bytes-1228 : sheetAnswer (72 ∷ 0 ∷ 1 ∷ replicate 1225 0) 71 ≡ refusal 9 0
   pub room-of-71 : sheetAnswer (72 ∷ 0 ∷ 1 ∷ replicate 1224 0) 71 ≡ refusal 4 0
 
--- METHOD 8.1, rows 12 to 14: kind 3 at t = 4; a gap at t = 71; the old figure 0.5 at t = 9. 7.10 and 8.2: a byte that is not zero in an unused double is
+-- METHOD 8.1, rows 12 to 14: kind 3 at t = 4; a gap at t = 5; the old figure 0.5 at t = 9. 7.10 and 8.2: a byte that is not zero in an unused double is
 -- row 12, in the first or the second of a gap, and behind a figure, also where that does not count and where the byte makes negative zero. 7.11: a figure
 -- and a new figure of 0.5 are row 14
 pub record CellRows : Type 0 where
   pub kind-3 : answerWith 4 (unknown ∷ []) ≡ refusal 12 4
-  pub gap-at-71 : answerWith 71 (gap ∷ []) ≡ refusal 13 71
+  pub kind-0 : answerWith 5 (gap ∷ []) ≡ refusal 13 5
   pub old-figure : answerWith 9 (month 2 half zeros ∷ []) ≡ refusal 14 9
   pub new-figure : answerWith 9 (month 2 zeros half ∷ []) ≡ refusal 14 9
   pub figure : answerWith 9 (notWhole ∷ []) ≡ refusal 14 9
