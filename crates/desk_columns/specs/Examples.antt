@@ -34,10 +34,10 @@ abbrev pub badWeights : List ℕ
 badWeights = columnsWith 3 229 7 288 (weight1001 ++ replicate 58 0 ++ weight1001)
 
 -- ---- reading and moving back
--- METHOD 8.1 and 8.2, reading, most of them with later rows that apply too: 5 bytes; 6 bytes of 71 and of 601 months; start months 0 and 13; period 6;
--- first year 0; 437 bytes, 436, as many as a plain file has, and 439; room for 71 figures or weights; the first bad figure and weight. (The number of four
--- bytes 127 is above 200,000, that of two above 1,000.) A good file from March 2021, with -200,000 and 1,000 as the last figure and the first weight that
--- stand in it, is accepted
+-- METHOD 8.1 and 8.2, reading, most of them with later rows that apply too: 5 bytes; 6 bytes of 71 and of 601 = 89 + 2 · 256 months; start months 0 and 13;
+-- period 6; first year 0; 437 bytes, 436, as many as a plain file has, and 439; room for 71 figures or weights; the first bad figure and weight. (Four bytes
+-- 127 are more than 200,000, two more than 1,000.) A good file from March 2021 is accepted; the last figure that stands in it is -200,000, which is
+-- 2³² - 200,000 = 192 + 242 · 256 + 252 · 256² + 255 · 256³, the first weight 1,000 = 232 + 3 · 256
 pub record ReadingColumnsRows : Type 0 where
   pub bytes-5 : readColumnsAnswer (71 ∷ 0 ∷ 13 ∷ 6 ∷ 0 ∷ []) 70 70 ≡ refusal 7 0
   pub too-few : readColumnsAnswer (71 ∷ 0 ∷ 13 ∷ 6 ∷ 0 ∷ 0 ∷ []) 70 70 ≡ refusal 1 0
@@ -71,7 +71,8 @@ pub record BackRows : Type 0 where
 
 -- ---- writing
 -- METHOD 8.1 and 8.2, most of them with later rows that apply too: 71 and 601 figures; start months 0 and 13; first year 0; 71 and 73 weights for 72
--- figures; an output of 437 bytes; figures and weights that are bad at t = 9 and t = 40. 72 good figures take 438 bytes, 600 take 3,606
+-- figures; an output of 437 bytes; figures and weights that are bad at t = 9 and t = 40. 72 good figures take 438 bytes; 600 from January 9950, the last of
+-- them in December 9999, take 3,606
 pub record WritingColumnsRows : Type 0 where
   pub too-few : writeColumnsAnswer 0 (outside 13 71 72) 437 ≡ refusal 1 0
   pub too-many : writeColumnsAnswer 0 (outside 13 601 72) 437 ≡ refusal 2 0
@@ -89,7 +90,7 @@ pub record WritingColumnsRows : Type 0 where
 -- ---- moving forward
 -- METHOD 8.1 and 8.2: rows 7 and 9 are of the plain file, 3 bytes and 4, and 435 or 438 instead of 436; row 11 of the year that is given; the output is to
 -- have room for the file by calendar month, 438 bytes. The bad figures and weights are at t = 9 and t = 12, of which t = 12, a January, comes first in month
--- order
+-- order; with the figures, the weight of t = 0 is bad too
 pub record ForwardRows : Type 0 where
   pub bytes-3 : forwardAnswer (71 ∷ 0 ∷ 13 ∷ []) 0 0 ≡ refusal 7 0
   pub too-few : forwardAnswer (71 ∷ 0 ∷ 13 ∷ 6 ∷ []) 0 0 ≡ refusal 1 0

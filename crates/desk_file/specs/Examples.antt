@@ -30,9 +30,9 @@ figure200001 = 65 ∷ 13 ∷ 3 ∷ 0 ∷ []
 abbrev pub weight1001 : List ℕ
 weight1001 = 233 ∷ 3 ∷ []
 
--- METHOD 8.1 and 8.2, most of them with later rows that apply too: 3 bytes; 71 and 601 months; start month 13; period 4; 435 bytes; room for 71 figures;
--- 200,001 at t = 0, and at t = 9 and t = 12; 1,001 at t = 5, and at t = 5 and t = 6. A good file, with -200,000 at t = 71 and the weight 1,000 at t = 0, is
--- accepted
+-- METHOD 8.1 and 8.2, most of them with later rows that apply too: 3 bytes; 71 and 601 = 89 + 2 · 256 months; start month 13; period 4; 435 bytes and 437;
+-- room for 71 figures or weights; 200,001 at t = 0, and at t = 9 and t = 12; 1,001 at t = 5, and at t = 5 and t = 6. A good file is accepted, with
+-- -200,000 at t = 71, which is 2³² - 200,000 = 192 + 242 · 256 + 252 · 256² + 255 · 256³, and the weight 1,000 = 232 + 3 · 256 at t = 0
 pub record ReadingRows : Type 0 where
   pub no-header : readAnswer (72 ∷ 0 ∷ 1 ∷ []) 72 72 ≡ refusal 7 0
   pub seven-first : readAnswer (71 ∷ 0 ∷ 13 ∷ []) 72 72 ≡ refusal 7 0
@@ -41,7 +41,9 @@ pub record ReadingRows : Type 0 where
   pub month-13 : readAnswer (72 ∷ 0 ∷ 13 ∷ 4 ∷ []) 72 72 ≡ refusal 3 0
   pub period-4 : readAnswer (72 ∷ 0 ∷ 1 ∷ 4 ∷ []) 72 72 ≡ refusal 8 0
   pub bytes-435 : readAnswer (72 ∷ 0 ∷ 1 ∷ 12 ∷ replicate 431 0) 71 72 ≡ refusal 9 0
+  pub bytes-437 : readAnswer (72 ∷ 0 ∷ 1 ∷ 12 ∷ replicate 433 0) 72 72 ≡ refusal 9 0
   pub room-of-71 : readAnswer (fileWith 0 figure200001) 71 72 ≡ refusal 4 0
+  pub weights-71 : readAnswer (fileWith 0 figure200001) 72 71 ≡ refusal 4 0
   pub figure-at-0 : readAnswer (fileWith 0 (figure200001 ++ replicate 284 0 ++ weight1001)) 72 72 ≡ refusal 5 0
   pub first-figure : readAnswer (fileWith 36 (figure200001 ++ replicate 8 0 ++ figure200001)) 72 72 ≡ refusal 5 9
   pub weight-at-5 : readAnswer (fileWith 298 weight1001) 72 72 ≡ refusal 10 5
@@ -53,7 +55,7 @@ pub record ReadingRows : Type 0 where
 abbrev pub badAt9And40 : {A : Type 0} → A → A → List A
 badAt9And40 fine bad = replicate 9 fine ++ bad ∷ replicate 30 fine ++ bad ∷ replicate 31 fine
 
--- as many figures of 200,001 and weights of 1,001, from a start month
+-- n figures of 200,001 and k weights of 1,001, from a start month
 abbrev pub outside : ℕ → ℕ → ℕ → SeriesWithWeights
 outside start n k = series start (replicate n (pos 200_001)) (replicate k 1_001)
 
