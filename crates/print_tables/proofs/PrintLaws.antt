@@ -1,7 +1,7 @@
 -- What is printed, by the promises of decomposing and of reading.
 use Prim.Native.Nat.{ℕ, _+_, _≤_}
-use mathlib.Core.Path.{_≡_, sym, ap, _∙_}
-use mathlib.Core.List.{List, _++_}
+use mathlib.Core.Path.{_≡_, sym, ap, subst, _∙_}
+use mathlib.Core.List.{List, [], _++_}
 use native.Mathlib.Omega.{arith}
 use lib.IntN.{ℤ}
 use lib.ListN.{length, take, drop, length-take}
@@ -33,6 +33,11 @@ print-done {file} {out₀} {r} h s =
     let e : r ≡ length (printed file) = omega (arith, s .ends) in
     let l : 0 + length (printed file) ≡ r = omega arith in
     record { answer = e; outLeft = s .stored ∙ sets-eq (printed file) out₀ 0 (omega (arith, s .short)) ∙ ap (λ (k : ℕ). printed file ++ drop k out₀) l }
+
+-- what is stored where nothing was put before
+pub after-nothing : {most : ℕ} {before mid after bytes : List ℕ} {at m next : ℕ} → Stored most before at [] m mid → Stored most mid at bytes next after
+    → Stored most before at bytes next after
+after-nothing {most} {after = after} {bytes} {at} {next = next} p q = subst (λ (l : List ℕ). Stored most l at bytes next after) (p .stored) q
 
 -- ---- decomposing
 -- the slices that are lent: the fronts of arrays
@@ -75,6 +80,10 @@ module _ {file : List ℕ} {figures₀ figures : List ℤ} {weights₀ weights :
   module _ (n start : ℕ) (e : r ≡ Series n start) where
     told : readAnswer file (length figures₀) (length weights₀) ≡ accepted n start
     told = sym (p .answer) ∙ ap readSays e
+
+    pub nothing-put : unreadText (readSays r) ≡ []
+    unfolding unreadText
+    nothing-put = ap (λ (x : Reading). unreadText (readSays x)) e
 
     pub months-fit : n ≤ mostMonths
     months-fit = read-sized file (length figures₀) (length weights₀) told .most

@@ -49,7 +49,7 @@ fn put_series(out: &mut [u8], start: u8, figures: &[i32]) -> usize
     }
 }
 
-// The line of a refusal by the reader.
+// The line of a refusal by the reader; nothing for a file that it accepts.
 fn put_unread(out: &mut [u8], answer: Reading) -> usize
     requires { ⌜ textRoom ≤ length (now out) ⌝ }
     ensures { λ r. ⌜ Stored textRoom (now (out .entry)) 0 (unreadText (readSays answer)) r (now (out .exit)) ⌝ }
@@ -61,15 +61,17 @@ fn put_unread(out: &mut [u8], answer: Reading) -> usize
     }
 }
 
-// The text of a desk file: the reader's answer is taken apart first. It stands at the front of `out`, and its length is the answer.
+// The text of a desk file: an accepted series goes on, a refusal has put its one line and ends. It stands at the front of `out`, and its length is
+// the answer.
 pub fn put_file(out: &mut [u8; print_lines::TEXT_ROOM], file: &[u8]) -> usize
     ensures { λ r. ⌜ PrintDone (now (file .entry)) (now (out .entry)) r (now (out .exit)) ⌝ }
 {
     let mut figures = [0i32; refusals::MOST_MONTHS];
     let mut weights = [0u16; refusals::MOST_MONTHS];
     let answer = desk_file::read(file, &mut figures, &mut weights);
+    let refused = put_unread(out, answer);
     let Reading::Series { count, start } = answer else {
-        return put_unread(out, answer);
+        return refused;
     };
     put_series(out, start, &figures[..count])
 }
