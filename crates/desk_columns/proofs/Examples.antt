@@ -21,7 +21,7 @@ reading-columns-rows = record { bytes-5 = refl; too-few = refl; too-many = refl;
 
 pub back-rows : BackRows
 unfolding tabFrom tab sumN startInside figureInside weightInside lastYear yearInside yearsInside firstFrom firstFailing firstOutside firstAbove numberAt signed columnOf firstIn inColumn place orderOfT storedFigure storedWeight figuresAt weightsAt countIn startIn periodIn firstYearIn seriesInColumns backAnswer
-back-rows = record { bytes-5 = refl; too-few = refl; too-many = refl; month-13 = refl; period-6 = refl; year-0 = refl; bytes-437 = refl; room-of-435 = refl; first-figure = refl; first-weight = refl; good = refl }
+back-rows = record { bytes-5 = refl; too-few = refl; too-many = refl; month-0 = refl; month-13 = refl; period-6 = refl; year-0 = refl; bytes-437 = refl; room-of-435 = refl; first-figure = refl; first-weight = refl; good = refl }
 
 pub writing-columns-rows : WritingColumnsRows
 unfolding startInside figureInside weightInside lastYear yearInside yearsInside firstFrom firstFailing firstOutside firstAbove writeColumnsAnswer
@@ -29,11 +29,11 @@ writing-columns-rows = record { too-few = refl; too-many = refl; month-0 = refl;
 
 pub forward-rows : ForwardRows
 unfolding tabFrom tab startInside figureInside weightInside lastYear yearInside yearsInside firstFrom firstFailing firstOutside firstAbove numberAt signed storedFigure storedWeight figuresAt weightsAt countIn startIn periodIn seriesIn forwardAnswer
-forward-rows = record { bytes-3 = refl; too-few = refl; too-many = refl; month-13 = refl; period-6 = refl; year-0 = refl; bytes-435 = refl; bytes-438 = refl; room-of-437 = refl; first-figure = refl; first-weight = refl; good = refl }
+forward-rows = record { bytes-3 = refl; too-few = refl; too-many = refl; month-0 = refl; month-13 = refl; period-6 = refl; year-0 = refl; bytes-435 = refl; bytes-438 = refl; room-of-437 = refl; first-figure = refl; first-weight = refl; good = refl }
 
 pub years-at-limits : YearsAtLimits
 unfolding tabFrom tab sumN startInside figureInside weightInside lastYear yearInside yearsInside firstFrom firstFailing firstOutside firstAbove numberAt signed columnOf firstIn inColumn place orderOfT storedFigure storedWeight figuresAt weightsAt countIn startIn periodIn seriesIn firstYearIn seriesInColumns readColumnsAnswer writeColumnsAnswer forwardAnswer backAnswer
-years-at-limits = record { last-year = refl; read-1 = refl; read-10000 = refl; read-65535 = refl; read-january = refl; read-february = refl; back-10000 = refl; back-january = refl; back-february = refl; write-10000 = refl; write-january = refl; write-february = refl; forward-10000 = refl; forward-january = refl; forward-february = refl }
+years-at-limits = record { last-year = refl; read-1 = refl; read-10000 = refl; read-65535 = refl; read-january = refl; read-february = refl; back-1 = refl; back-10000 = refl; back-january = refl; back-february = refl; write-10000 = refl; write-january = refl; write-february = refl; forward-10000 = refl; forward-january = refl; forward-february = refl }
 
 pub months-from-march : MonthsFromMarch
 unfolding tabFrom tab sumN startInside figureInside weightInside lastYear yearInside yearsInside firstFrom firstFailing firstOutside firstAbove bytesOf numberAt word signed array columnOf firstIn inColumn place column nextColumns monthOrder orderOfT figuresBytes weightsBytes storedFigure storedWeight figuresAt weightsAt header countIn startIn periodIn fileBytes seriesIn columnsBytes firstYearIn seriesInColumns readColumnsAnswer writeColumnsAnswer forwardAnswer backAnswer

@@ -98,8 +98,8 @@ BackForward = (file : List ℕ) (back₀ back : List ℕ) (q : MovingBack) (k ye
     → MovedForward (take k back) year out₀ r out
     → WrittenAgain file out₀ r out
 
--- what `write` accepts, whatever its output, `write_columns` accepts too, from every first year that is inside the limits with that of the last month
--- (row 11), into an output with room for it: the answer is its length, 6 + 6n (columns-accepted-too)
+-- what `write` accepts, whatever its output, `write_columns` accepts too, from every first year by which neither it nor the year of the last month is outside
+-- the limits (row 11), into an output with room for it: the answer is its length, 6 + 6n (columns-accepted-too)
 abbrev pub ColumnsAcceptedToo : Type 0
 ColumnsAcceptedToo = (s : SeriesWithWeights) (plainRoom k year room : ℕ)
     → writeAnswer s plainRoom ≡ success k

@@ -24,9 +24,9 @@ use Rattle.desk_columns.specs.Moving.{forwardAnswer, MovedForward, sizeA
 abbrev pub columnsWith : ℕ → ℕ → ℕ → ℕ → List ℕ → List ℕ
 columnsWith start low high place bytes = 72 ∷ 0 ∷ start ∷ 12 ∷ low ∷ high ∷ arraysWith place bytes
 
--- METHOD 7.6 and 8.1: from March 2021 = 229 + 7 · 256, months 10 and 3 bad, and of the weights alone. Month 10, a January, is at place 0 of its array, month
--- 3, a June, at place 30 after five columns of six: bytes 0 and 120 of the figures, 288 and 348 of the weights. Month 0 is at place 12: its weight, at
--- 288 + 24 = 312, is bad in the first file too
+-- METHOD 7.6 and 8.1: two files from March 2021 = 229 + 7 · 256, with bad figures at t = 10 and t = 3, and with bad weights there. t = 10, a January, is at
+-- place 0 of its array, t = 3, a June, at place 30 after five columns of six: bytes 0 and 120 of the figures, 288 and 348 of the weights. In the first file
+-- a weight is bad too, that of t = 0, which is at place 12: byte 288 + 24 = 312
 abbrev pub badFigures : List ℕ
 badFigures = columnsWith 3 229 7 0 (figure200001 ++ replicate 116 0 ++ figure200001 ++ replicate 188 0 ++ weight1001)
 
@@ -55,11 +55,13 @@ pub record ReadingColumnsRows : Type 0 where
   pub first-weight : readColumnsAnswer badWeights 72 72 ≡ refusal 10 3
   pub good : readColumnsAnswer (columnsWith 3 229 7 284 (192 ∷ 242 ∷ 252 ∷ 255 ∷ 232 ∷ 3 ∷ [])) 72 72 ≡ dated 72 3 2021
 
--- METHOD 8.1 and 8.2, moving back: the same files; the output is to have room for the plain file, 436 bytes
+-- METHOD 8.1 and 8.2, moving back: of the rows of reading the same files, of which some are left out here; the output is to have room for the plain file,
+-- 436 bytes. A file of zeros from March 2021 is moved
 pub record BackRows : Type 0 where
   pub bytes-5 : backAnswer (71 ∷ 0 ∷ 13 ∷ 6 ∷ 0 ∷ []) 0 ≡ refusal 7 0
   pub too-few : backAnswer (71 ∷ 0 ∷ 13 ∷ 6 ∷ 0 ∷ 0 ∷ []) 0 ≡ refusal 1 0
   pub too-many : backAnswer (89 ∷ 2 ∷ 13 ∷ 6 ∷ 0 ∷ 0 ∷ []) 0 ≡ refusal 2 0
+  pub month-0 : backAnswer (72 ∷ 0 ∷ 0 ∷ 6 ∷ 0 ∷ 0 ∷ []) 0 ≡ refusal 3 0
   pub month-13 : backAnswer (72 ∷ 0 ∷ 13 ∷ 6 ∷ 0 ∷ 0 ∷ []) 0 ≡ refusal 3 0
   pub period-6 : backAnswer (72 ∷ 0 ∷ 1 ∷ 6 ∷ 0 ∷ 0 ∷ []) 0 ≡ refusal 8 0
   pub year-0 : backAnswer (72 ∷ 0 ∷ 1 ∷ 12 ∷ 0 ∷ 0 ∷ []) 0 ≡ refusal 11 0
@@ -71,8 +73,8 @@ pub record BackRows : Type 0 where
 
 -- ---- writing
 -- METHOD 8.1 and 8.2, most of them with later rows that apply too: 71 and 601 figures; start months 0 and 13; first year 0; 71 and 73 weights for 72
--- figures; an output of 437 bytes; figures and weights that are bad at t = 9 and t = 40. 72 good figures take 438 bytes; 600 from January 9950, the last of
--- them in December 9999, take 3,606
+-- figures; an output of 437 bytes; from March, figures and weights that are bad at t = 9, a December, and at t = 40, a July, which comes first in month order.
+-- 72 good figures take 438 bytes; 600 from January 9950, the last of them in December 9999, take 3,606
 pub record WritingColumnsRows : Type 0 where
   pub too-few : writeColumnsAnswer 0 (outside 13 71 72) 437 ≡ refusal 1 0
   pub too-many : writeColumnsAnswer 0 (outside 13 601 72) 437 ≡ refusal 2 0
@@ -95,6 +97,7 @@ pub record ForwardRows : Type 0 where
   pub bytes-3 : forwardAnswer (71 ∷ 0 ∷ 13 ∷ []) 0 0 ≡ refusal 7 0
   pub too-few : forwardAnswer (71 ∷ 0 ∷ 13 ∷ 6 ∷ []) 0 0 ≡ refusal 1 0
   pub too-many : forwardAnswer (89 ∷ 2 ∷ 13 ∷ 6 ∷ []) 0 0 ≡ refusal 2 0
+  pub month-0 : forwardAnswer (72 ∷ 0 ∷ 0 ∷ 6 ∷ []) 0 0 ≡ refusal 3 0
   pub month-13 : forwardAnswer (72 ∷ 0 ∷ 13 ∷ 6 ∷ []) 0 0 ≡ refusal 3 0
   pub period-6 : forwardAnswer (72 ∷ 0 ∷ 1 ∷ 6 ∷ []) 0 0 ≡ refusal 8 0
   pub year-0 : forwardAnswer (72 ∷ 0 ∷ 1 ∷ 12 ∷ []) 0 0 ≡ refusal 11 0
@@ -106,9 +109,9 @@ pub record ForwardRows : Type 0 where
   pub good : forwardAnswer (fileWith 284 (192 ∷ 242 ∷ 252 ∷ 255 ∷ 232 ∷ 3 ∷ [])) 1 438 ≡ success 438
 
 -- ---- the years
--- METHOD 7.5: 75 months from March 2020 end in 2026. Row 11 of 8.1: first years 0 and 10,000 = 16 + 39 · 256 are refused, 1 is accepted; 72 months from
--- January 9994 = 10 + 39 · 256 end in December 9999 and are accepted, from February 9994 they end in January 10000 and are refused; so is 65,535, which is
--- read as it stands
+-- METHOD 7.5: 75 months from March 2020 end in 2026. Row 11 of 8.1: a first year of 10,000 = 16 + 39 · 256 is refused, 1 is accepted (0 is refused, above);
+-- 72 months from January 9994 = 10 + 39 · 256 end in December 9999 and are accepted, from February 9994 they end in January 10000 and are refused; so is
+-- 65,535, which is read as it stands
 pub record YearsAtLimits : Type 0 where
   pub last-year : lastYear 2_020 3 75 ≡ 2_026
   pub read-1 : readColumnsAnswer (columnsWith 12 1 0 0 []) 72 72 ≡ dated 72 12 1
@@ -116,6 +119,7 @@ pub record YearsAtLimits : Type 0 where
   pub read-65535 : readColumnsAnswer (columnsWith 1 255 255 0 []) 72 72 ≡ refusal 11 0
   pub read-january : readColumnsAnswer (columnsWith 1 10 39 0 []) 72 72 ≡ dated 72 1 9_994
   pub read-february : readColumnsAnswer (columnsWith 2 10 39 0 []) 72 72 ≡ refusal 11 0
+  pub back-1 : backAnswer (columnsWith 12 1 0 0 []) 436 ≡ sizeAndYear 436 1
   pub back-10000 : backAnswer (columnsWith 1 16 39 0 []) 436 ≡ refusal 11 0
   pub back-january : backAnswer (columnsWith 1 10 39 0 []) 436 ≡ sizeAndYear 436 9_994
   pub back-february : backAnswer (columnsWith 2 10 39 0 []) 436 ≡ refusal 11 0
@@ -143,7 +147,7 @@ abbrev pub fileFromMarch : List ℕ
 fileFromMarch = 75 ∷ 0 ∷ 3 ∷ 12 ∷ 228 ∷ 7 ∷ arraysOf columnsFromMarch
 
 -- METHOD 7.7, 7.8, 8.4: what the four entry points promise of it. Slices of 76 and 77 entries, all 9, keep the last one and the last two; outputs of 458
--- and 456 bytes keep the last two, and where the first year is 0 all
+-- and 456 bytes keep the last two. Moved forward from the year 0 it is refused, and the output keeps all
 pub record MonthsFromMarch : Type 0 where
   pub read : (r : ColumnsReading) (figures : List ℤ) (weights : List ℕ) → ReadColumnsDone fileFromMarch (replicate 76 (pos 9)) (replicate 77 9) r figures weights
       → (readColumnsSays r ≡ dated 75 3 2_020) × (figures ≡ fromMarch .figures ++ pos 9 ∷ []) × (weights ≡ fromMarch .weights ++ 9 ∷ 9 ∷ [])

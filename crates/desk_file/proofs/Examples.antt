@@ -13,7 +13,7 @@ use Rattle.desk_file.specs.Examples.{ReadingRows, WritingRows, SeriesFro
 
 pub reading-rows : ReadingRows
 unfolding tabFrom tab startInside figureInside weightInside firstFrom firstFailing firstOutside firstAbove numberAt signed storedFigure storedWeight figuresAt weightsAt countIn startIn periodIn seriesIn readAnswer
-reading-rows = record { no-header = refl; seven-first = refl; too-few = refl; too-many = refl; month-13 = refl; period-4 = refl; bytes-435 = refl; bytes-437 = refl; room-of-71 = refl; weights-71 = refl; figure-at-0 = refl; first-figure = refl; weight-at-5 = refl; first-weight = refl; good = refl }
+reading-rows = record { no-header = refl; seven-first = refl; too-few = refl; too-many = refl; month-0 = refl; month-13 = refl; period-4 = refl; bytes-435 = refl; bytes-437 = refl; room-of-71 = refl; weights-71 = refl; figure-at-0 = refl; first-figure = refl; first-below = refl; weight-at-5 = refl; first-weight = refl; good = refl }
 
 pub writing-rows : WritingRows
 unfolding startInside figureInside weightInside firstFrom firstFailing firstOutside firstAbove writeAnswer

@@ -30,14 +30,16 @@ figure200001 = 65 ∷ 13 ∷ 3 ∷ 0 ∷ []
 abbrev pub weight1001 : List ℕ
 weight1001 = 233 ∷ 3 ∷ []
 
--- METHOD 8.1 and 8.2, most of them with later rows that apply too: 3 bytes; 71 and 601 = 89 + 2 · 256 months; start month 13; period 4; 435 bytes and 437;
--- room for 71 figures or weights; 200,001 at t = 0, and at t = 9 and t = 12; 1,001 at t = 5, and at t = 5 and t = 6. A good file is accepted, with
--- -200,000 at t = 71, which is 2³² - 200,000 = 192 + 242 · 256 + 252 · 256² + 255 · 256³, and the weight 1,000 = 232 + 3 · 256 at t = 0
+-- METHOD 8.1 and 8.2, most of them with later rows that apply too: 3 bytes; 71 and 601 = 89 + 2 · 256 months; start months 0 and 13; period 4; 435 bytes and
+-- 437; room for 71 figures or weights; 200,001 at t = 0, and at t = 9 and t = 12, with a bad weight at t = 0 each time; -200,001 at t = 9; 1,001 at t = 5, and
+-- at t = 5 and t = 6. A good file is accepted, with -200,000 at t = 71, which is 2³² - 200,000 = 192 + 242 · 256 + 252 · 256² + 255 · 256³ (-200,001 has 191
+-- for 192), and the weight 1,000 = 232 + 3 · 256 at t = 0
 pub record ReadingRows : Type 0 where
   pub no-header : readAnswer (72 ∷ 0 ∷ 1 ∷ []) 72 72 ≡ refusal 7 0
   pub seven-first : readAnswer (71 ∷ 0 ∷ 13 ∷ []) 72 72 ≡ refusal 7 0
   pub too-few : readAnswer (71 ∷ 0 ∷ 13 ∷ 4 ∷ []) 72 72 ≡ refusal 1 0
   pub too-many : readAnswer (89 ∷ 2 ∷ 13 ∷ 4 ∷ []) 72 72 ≡ refusal 2 0
+  pub month-0 : readAnswer (72 ∷ 0 ∷ 0 ∷ 4 ∷ []) 72 72 ≡ refusal 3 0
   pub month-13 : readAnswer (72 ∷ 0 ∷ 13 ∷ 4 ∷ []) 72 72 ≡ refusal 3 0
   pub period-4 : readAnswer (72 ∷ 0 ∷ 1 ∷ 4 ∷ []) 72 72 ≡ refusal 8 0
   pub bytes-435 : readAnswer (72 ∷ 0 ∷ 1 ∷ 12 ∷ replicate 431 0) 71 72 ≡ refusal 9 0
@@ -45,7 +47,8 @@ pub record ReadingRows : Type 0 where
   pub room-of-71 : readAnswer (fileWith 0 figure200001) 71 72 ≡ refusal 4 0
   pub weights-71 : readAnswer (fileWith 0 figure200001) 72 71 ≡ refusal 4 0
   pub figure-at-0 : readAnswer (fileWith 0 (figure200001 ++ replicate 284 0 ++ weight1001)) 72 72 ≡ refusal 5 0
-  pub first-figure : readAnswer (fileWith 36 (figure200001 ++ replicate 8 0 ++ figure200001)) 72 72 ≡ refusal 5 9
+  pub first-figure : readAnswer (fileWith 36 (figure200001 ++ replicate 8 0 ++ figure200001 ++ replicate 236 0 ++ weight1001)) 72 72 ≡ refusal 5 9
+  pub first-below : readAnswer (fileWith 36 (191 ∷ 242 ∷ 252 ∷ 255 ∷ [])) 72 72 ≡ refusal 5 9
   pub weight-at-5 : readAnswer (fileWith 298 weight1001) 72 72 ≡ refusal 10 5
   pub first-weight : readAnswer (fileWith 298 (weight1001 ++ weight1001)) 72 72 ≡ refusal 10 5
   pub good : readAnswer (fileWith 284 (192 ∷ 242 ∷ 252 ∷ 255 ∷ 232 ∷ 3 ∷ [])) 72 72 ≡ accepted 72 1
@@ -82,16 +85,16 @@ abbrev pub fromMarch : SeriesWithWeights
 fromMarch = series 3 (tab 75 (λ t. negℤ (pos (1 + t)))) (tab 75 (λ t. 256 + t))
 
 -- METHOD 7.1: the two arrays, from the months in the order in which they stand there: -1 - t is the bytes 255 - t, 255, 255, 255, and 256 + t is t, 1
-abbrev pub figuresOf : List ℕ → List ℕ
-figuresOf [] = []
-figuresOf (t ∷ ts) = (255 - t) ∷ 255 ∷ 255 ∷ 255 ∷ figuresOf ts
+abbrev pub figureBytes : List ℕ → List ℕ
+figureBytes [] = []
+figureBytes (t ∷ ts) = (255 - t) ∷ 255 ∷ 255 ∷ 255 ∷ figureBytes ts
 
-abbrev pub weightsOf : List ℕ → List ℕ
-weightsOf [] = []
-weightsOf (t ∷ ts) = t ∷ 1 ∷ weightsOf ts
+abbrev pub weightBytes : List ℕ → List ℕ
+weightBytes [] = []
+weightBytes (t ∷ ts) = t ∷ 1 ∷ weightBytes ts
 
 abbrev pub arraysOf : List ℕ → List ℕ
-arraysOf months = figuresOf months ++ weightsOf months
+arraysOf months = figureBytes months ++ weightBytes months
 
 -- METHOD 7.1: their plain file, 4 + 6 · 75 = 454 bytes
 abbrev pub plainFromMarch : List ℕ

@@ -1,4 +1,4 @@
--- METHOD 5: years and groups, spreads, weights and corrections, and that no group is emptied. Contracts has what the functions ask, and what `weights`
+-- METHOD 5: years and groups, spreads, weights (none above 1,000) and corrections, and that no group is emptied. Contracts has what the functions ask, and what `weights`
 -- promises.
 pub mod Years
 pub mod Spreads

@@ -1,4 +1,4 @@
--- METHOD 5.6: the weights; 5.7: the correction.
+-- METHOD 5.6: the weights, and that none is above 1,000; 5.7: the correction.
 use Prim.Native.Nat.{ℕ, _*_, _-_, _≤_}
 use mathlib.Core.Bool.{cond}
 use mathlib.Core.List.{List}

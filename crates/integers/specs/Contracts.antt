@@ -6,8 +6,8 @@ use lib.IntN.{ℤ, pos, natAbs, _+ℤ_, _-ℤ_, _*ℤ_}
 use lib.Signed.{ltZ, _<ℤ_}
 use Rattle.integers.specs.Sizes.{_within_}
 
--- rounding to a grain and away from zero: no quotient is larger, nor a divisor, and so no numerator; twice that and a divisor more fit in 64 bits,
--- signed
+-- rounding to a grain and away from zero: the largest quotient and the largest divisor, and so the largest numerator; twice that and a divisor more fit in
+-- 64 bits, signed
 abbrev pub largestQuotient : ℕ
 largestQuotient = 4_000_000_000_000
 

@@ -18,7 +18,7 @@ size-rows = record { two-bytes = refl; too-few = refl; too-many = refl; month-13
 
 pub cell-rows : CellRows
 unfolding startInside figureInside numberAt countIn startIn ofBits doubleAt unusedAt isWhole numberIn counts importedAt kindAt firstAt secondAt cellAt cellsFrom sheetAnswer
-cell-rows = record { kind-3 = refl; kind-0 = refl; old-figure = refl; new-figure = refl; figure = refl; gap-first-used = refl; gap-second-used = refl; figure-second-used = refl }
+cell-rows = record { kind-3 = refl; kind-255 = refl; kind-0 = refl; old-figure = refl; new-figure = refl; figure = refl; gap-first-used = refl; gap-second-used = refl; figure-second-used = refl; negative-zero-used = refl; twelve-before-fourteen = refl }
 
 pub first-bad-cell : FirstBadCell
 unfolding startInside figureInside numberAt countIn startIn ofBits doubleAt unusedAt isWhole numberIn counts importedAt kindAt firstAt secondAt cellAt cellsFrom sheetAnswer

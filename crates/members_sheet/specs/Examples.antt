@@ -3,7 +3,7 @@
 use Prim.Native.Nat.{ℕ, _-_, _*_}
 use mathlib.Core.Path.{_≡_}
 use mathlib.Core.List.{List, [], _∷_, _++_, map}
-use lib.IntN.{pos, negsuc}
+use lib.IntN.{pos, negℤ}
 use lib.ListN.{length, replicate, take}
 use Rattle.refusals.specs.Sheet.{Answer, refusal}
 use Rattle.doubles.specs.Doubles.{doubleOf}
@@ -69,18 +69,21 @@ pub record SizeRows : Type 0 where
   pub bytes-1228 : sheetAnswer (72 ∷ 0 ∷ 1 ∷ replicate 1225 0) 71 ≡ refusal 9 0
   pub room-of-71 : sheetAnswer (72 ∷ 0 ∷ 1 ∷ replicate 1224 0) 71 ≡ refusal 4 0
 
--- METHOD 8.1, rows 12 to 14: kind 3 at t = 4; a gap at t = 5; the old figure 0.5 at t = 9. 7.10 and 8.2: a byte that is not zero in an unused double is
--- row 12, in the first or the second of a gap, and behind a figure, also where that does not count and where the byte makes negative zero. 7.11: a figure
--- and a new figure of 0.5 are row 14
+-- METHOD 8.1, rows 12 to 14: kinds 3 and 255 at t = 4; a gap at t = 5; the old figure 0.5 at t = 9. 7.10 and 8.2: a byte that is not zero in an unused double
+-- is row 12: in the first or the second of a gap; behind a figure; where it makes negative zero; and behind a figure that does not count. 7.11: a figure and
+-- a new figure of 0.5 are row 14
 pub record CellRows : Type 0 where
   pub kind-3 : answerWith 4 (unknown ∷ []) ≡ refusal 12 4
+  pub kind-255 : answerWith 4 (month 255 zeros zeros ∷ []) ≡ refusal 12 4
   pub kind-0 : answerWith 5 (gap ∷ []) ≡ refusal 13 5
   pub old-figure : answerWith 9 (month 2 half zeros ∷ []) ≡ refusal 14 9
   pub new-figure : answerWith 9 (month 2 zeros half ∷ []) ≡ refusal 14 9
   pub figure : answerWith 9 (notWhole ∷ []) ≡ refusal 14 9
   pub gap-first-used : answerWith 4 (month 0 half zeros ∷ []) ≡ refusal 12 4
   pub gap-second-used : answerWith 4 (month 0 zeros half ∷ []) ≡ refusal 12 4
-  pub figure-second-used : answerWith 4 (month 1 half negativeZero ∷ []) ≡ refusal 12 4
+  pub figure-second-used : answerWith 4 (month 1 zeros half ∷ []) ≡ refusal 12 4
+  pub negative-zero-used : answerWith 4 (month 1 zeros negativeZero ∷ []) ≡ refusal 12 4
+  pub twelve-before-fourteen : answerWith 4 (month 1 half half ∷ []) ≡ refusal 12 4
 
 -- METHOD 8.2, the first of several bad cells, whichever rows apply to those behind it
 pub record FirstBadCell : Type 0 where
@@ -98,8 +101,8 @@ revised =
     ∷ month 2 (double 0 28 64) (double 0 28 64)
     ∷ []
 
--- METHOD 7.12 and 7.13: the sheet with these from t = 0 on is accepted, also with room for one figure more, and told with its start month and the total
--- revision -399,995; the series has the new figures, here of the first six months
+-- METHOD 7.12 and 7.13: the sheet with these from t = 0 on is accepted into a slice with room for one figure more, and told with its start month and the
+-- total revision -399,995; the series has the new figures, here of the first six months
 pub record RevisedSheet : Type 0 where
-  pub answer : sheetAnswer (sheetWith 12 0 revised) 73 ≡ sheetAccepted 72 12 (doubleOf (negsuc 399_994))
-  pub series : take 6 (figuresIn (sheetWith 12 0 revised)) ≡ pos 1005 ∷ pos 1000 ∷ negsuc 199_999 ∷ pos 0 ∷ pos 7 ∷ pos 0 ∷ []
+  pub answer : sheetAnswer (sheetWith 12 0 revised) 73 ≡ sheetAccepted 72 12 (doubleOf (negℤ (pos 399_995)))
+  pub series : take 6 (figuresIn (sheetWith 12 0 revised)) ≡ pos 1005 ∷ pos 1000 ∷ negℤ (pos 200_000) ∷ pos 0 ∷ pos 7 ∷ pos 0 ∷ []

@@ -24,7 +24,7 @@ pub record HasCells (sheet : List ℕ) (n : ℕ) : Type 0 where
   pub most : n ≤ mostMonths
   pub long : sheetLength n ≤ length sheet
 
--- every double of the cell is with this month
+-- every double of the cell carries the number of this month
 abbrev pub OfMonth : ℕ → CellRead → Type 0
 OfMonth t Malformed = Unit
 OfMonth t (Known Gap) = Unit
