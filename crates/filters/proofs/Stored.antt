@@ -1,17 +1,20 @@
 -- The stored tables are what the code of a filter asks, by computation and by their norms.
+use Prim.Native.Nat.{ℕ}
 use native.Mathlib.Omega.{arith}
 use Rattle.rows.specs.declared.SeasonalFilter.{SeasonalFilter}
 use Rattle.rows.specs.declared.SeasonalFilter.the-variants.{ThreeByThree, ThreeByFive, ThreeByNine}
 use Rattle.rows.specs.declared.Terms.{Terms}
 use Rattle.rows.specs.declared.Terms.the-variants.{Nine, Thirteen, TwentyThree}
-use Rattle.rows.specs.FilterTables.{table2x12, tableSeasonal, tableHenderson}
+use Rattle.rows.specs.Table.{Table}
+use Rattle.rows.specs.FilterTables.{tableSeasonal, tableHenderson}
+use Rattle.rows.proofs.Means.{AllMeans}
 use Rattle.filters.specs.Contracts.{Readable}
-use Rattle.filters.proofs.Light.{light2x12, lightSeasonal, lightHenderson}
-use Rattle.filters.proofs.Window.{readable}
+use Rattle.filters.proofs.Light.{all-means, lightSeasonal, lightHenderson}
+use Rattle.filters.proofs.Window.{Asked, readable}
 
-pub readable2x12 : Readable table2x12
-unfolding table2x12
-readable2x12 = readable _ (tt, tt, tt, tt, tt, tt, tt, tt, tt, tt, tt) light2x12 (omega arith)
+-- any rows that are means, as the code of 2×12 and 3×3 passes them
+pub readable-means : (F : Table) (L : ℕ) → Asked F → AllMeans L F → Readable F
+readable-means F L q m = readable F q (all-means F L m) (omega arith)
 
 pub readableSeasonal : (f : SeasonalFilter) → Readable (tableSeasonal f)
 unfolding tableSeasonal

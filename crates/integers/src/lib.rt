@@ -6,7 +6,7 @@ ghost use lib.Dec.{leb};
 ghost use lib.IntN.{pos, natAbs};
 ghost use Rattle.integers.specs.Rounding.{halfUp, awayFromZero, toGrain};
 ghost use Rattle.integers.specs.Root.{root};
-ghost use Rattle.integers.specs.Contracts.{largestDivisor, largestNumerator, largestCandidate, Rounds, farther};
+ghost use Rattle.integers.specs.Contracts.{largestNumerator, largestCandidate, Rounds, farther};
 
 // The largest quotient that is rounded, in pairs of grains.
 const PAIRS: i64 = 2_000_000_000_000;
@@ -36,36 +36,35 @@ pub fn away_from_zero(x: i64, d: i64) -> i64
     farther(x, d) / (2 * d)
 }
 
-// The largest number below half of n.
-fn below_half(n: u64) -> u64
-    requires { ⌜ 0 < n ⌝ }
-    ensures { λ r. ⌜ (2 * r < n) × (n ≤ 2 * r + 2) ⌝ }
+// Half of n, cut to a whole number.
+fn half(n: u64) -> u64
+    ensures { λ r. ⌜ (2 * r ≤ n) × (n ≤ 2 * r + 1) ⌝ }
 {
-    (n - 1) / 2
+    n / 2
 }
 
 // 1 where a rest is among the first of its pair, those of the odd grain; else 0. (As a number: of a test the compiler makes a branch.)
-fn odd(rest: u64, less: u64) -> i64
-    requires { ⌜ less ≤ largestDivisor ⌝ }
-    ensures { λ r. ⌜ r ≡ cond (leb rest (2 * less)) (pos 1) (pos 0) ⌝ }
+fn odd(rest: u64, last: u64) -> i64
+    ensures { λ r. ⌜ r ≡ cond (leb rest last) (pos 1) (pos 0) ⌝ }
 {
-    (rest <= 2 * less) as i64
+    (rest <= last) as i64
 }
 
-// x / d to the nearest grain, a half to the even one (METHOD 1.3), by pairs of grains: an odd one and the even one after it. With `less` for the
-// largest number below half of d, the numerators of a pair begin `less` before its odd grain, which has the first 2 less + 1 of them, none of them a
-// half; the even one has the others. x is raised by PAIRS pairs to zero or above, where division cuts downward. (The quotient stands before `odd`:
-// else the compiler makes a branch here too.)
+// x / d to the nearest grain, a half to the even one (METHOD 1.3), by pairs of grains: an odd one and the even one after it. The odd grain has the
+// numerators from `before` before it to `after` after it, on both sides the most that are fewer than half of d; the even one has the others, halves
+// among them. A pair begins with the first numerator of its odd grain. x is raised by PAIRS pairs to zero or above, where division cuts downward. (The
+// quotient stands before `odd`: else the compiler makes a branch here too.)
 pub fn to_grain(x: i64, d: i64) -> i64
     requires { ⌜ Rounds x d ⌝ }
     ensures { λ r. ⌜ r ≡ toGrain x (natAbs d) ⌝ }
 {
     let n = d as u64;
     let pair = 2 * n;
-    let less = below_half(n);
-    let y = (x + PAIRS * (2 * d)) as u64 + (n + less);
+    let before = half(n - 1);
+    let after = half(n - 1);
+    let y = (x + PAIRS * (2 * d)) as u64 + (n + before);
     let even = 2 * ((y / pair) as i64 - PAIRS);
-    even - odd(y % pair, less)
+    even - odd(y % pair, before + after)
 }
 
 // The size of a number.

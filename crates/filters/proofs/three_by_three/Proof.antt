@@ -1,9 +1,10 @@
 -- `filters::three_by_three` meets its contract: the month-run step by the rows of 3×3.
 -- Assumes nothing.
 use borrow.Author.Needs.{needs}
-use Rattle.rows.specs.declared.SeasonalFilter.the-variants.{ThreeByThree}
+use Rattle.integers.specs.Sums.{sumZ}
+use Rattle.rows.specs.Table.{middleRow, rowCount, rowWeight, denominator}
 use Rattle.rows.specs.FilterTables.{tableSeasonal}
-use Rattle.filters.proofs.Stored.{readableSeasonal}
+use Rattle.filters.proofs.Stored.{readable-means}
 use Rattle.filters.proofs.three_by_three.Statement.{statement}
 use Rattle.filters.proofs.three_by_three.Tie as tie
 
@@ -11,8 +12,9 @@ slice-aggregate-month-runs : tie.Need-slice-aggregate-month-runs
 slice-aggregate-month-runs c = search needs
 
 month-runs-requires : tie.Need-month-runs-requires
-unfolding tableSeasonal
-month-runs-requires c κs = let s = c .before .before in (record { readable = readableSeasonal ThreeByThree; enough = s .pre .1; filterable = s .pre .0 }, s .pre .2)
+unfolding middleRow rowCount rowWeight denominator sumZ
+month-runs-requires c κs = let s = c .before .before in
+    (record { readable = readable-means _ 27 (tt, tt, tt, tt, tt, tt, tt, tt, tt, tt, tt) tt; enough = s .pre .1; filterable = s .pre .0 }, s .pre .2)
 
 same-length : tie.Need-same-length
 same-length c = search needs

@@ -2,8 +2,10 @@
 -- Assumes nothing.
 use native.Mathlib.Omega.{arith}
 use borrow.Author.Needs.{needs}
+use Rattle.integers.specs.Sums.{sumZ}
+use Rattle.rows.specs.Table.{middleRow, rowCount, rowWeight, denominator}
 use Rattle.rows.specs.FilterTables.{table2x12}
-use Rattle.filters.proofs.Stored.{readable2x12}
+use Rattle.filters.proofs.Stored.{readable-means}
 use Rattle.filters.proofs.two_by_twelve.Statement.{statement}
 use Rattle.filters.proofs.two_by_twelve.Tie as tie
 
@@ -11,8 +13,9 @@ slice-aggregate-fill-inside : tie.Need-slice-aggregate-fill-inside
 slice-aggregate-fill-inside c = search needs
 
 fill-inside-requires : tie.Need-fill-inside-requires
-unfolding table2x12
-fill-inside-requires c κs = let s = c .before .before in (record { readable = readable2x12; enough = omega (arith, s .pre .1); filterable = s .pre .0 }, s .pre .2)
+unfolding middleRow rowCount rowWeight denominator sumZ
+fill-inside-requires c κs = let s = c .before .before in
+    (record { readable = readable-means _ 24 (tt, tt, tt, tt, tt, tt, tt, tt, tt, tt, tt) tt; enough = omega (arith, s .pre .1); filterable = s .pre .0 }, s .pre .2)
 
 same-length : tie.Need-same-length
 same-length c = search needs

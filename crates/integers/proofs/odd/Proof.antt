@@ -2,7 +2,6 @@
 -- Assumes nothing.
 use mathlib.Core.Path.{_≡_, refl}
 use mathlib.Core.Bool.{Bool, true, false, cond}
-use Prim.Native.Nat.{_*_}
 use lib.Dec.{leb}
 use lib.IntN.{pos}
 use mir.Syntax.{w64}
@@ -15,14 +14,11 @@ bit : (b : Bool) → toZ w64 (boolByte b) ≡ cond b (pos 1) (pos 0)
 bit true = refl
 bit false = refl
 
-mul-result : tie.Need-mul-result
-mul-result c = search needs
-
 cast-result : tie.Need-cast-result
 cast-result c = search needs
 
 returns : tie.Need-returns
-returns c = bit (leb (c .args .rest) (2 * c .args .less))
+returns c = bit (leb (c .args .rest) (c .args .last))
 
 pub odd-spec : {M : Type 1} → statement M
-odd-spec = tie.close (tie.spec mul-result cast-result returns)
+odd-spec = tie.close (tie.spec cast-result returns)

@@ -71,33 +71,49 @@ module _ (s : tie.Start) where
   whole-most : whole ≤ 2 * many * (2 * n)
   whole-most = omega (arith, whole-is, abs-add x (pos (many * (2 * n))), enough)
 
--- with `less` from its call
-module _ (c : tie.After-below-half) where
-  abbrev less : ℕ
-  less = c .below-half .result
+-- with `before` and `after` from their calls
+module _ (c : tie.After-half2) where
+  abbrev s : tie.Start
+  s = c .before .before
+
+  abbrev before : ℕ
+  before = c .before .half .result
+
+  abbrev after : ℕ
+  after = c .half2 .result
 
   -- the pairs and the rest
   abbrev y : ℕ
-  y = whole (c .before) + (n (c .before) + less)
+  y = whole s + (n s + before)
 
   abbrev pair : ℕ
-  pair = 2 * n (c .before)
+  pair = 2 * n s
 
   y-is : (pair * (y / pair) + y % pair ≡ y) × (y % pair < pair)
-  y-is = (div-add-mod y pair, mod-lt y {m = pair} (omega (arith, n-limits (c .before))))
+  y-is = (div-add-mod y pair, mod-lt y {m = pair} (omega (arith, n-limits s)))
 
   pairs-is : Reads (toZ w64 (y / pair)) (pos (y / pair)) (largestQuotient + 1)
   pairs-is =
-      let l : pair * (y / pair) ≤ pair * (largestQuotient + 1) = omega (arith, y-is, c .below-half .ensures, whole-most (c .before)) in
-      i-cast (le-of-mul-le-mul-left l (omega (arith, n-limits (c .before)))) tt
+      let l : pair * (y / pair) ≤ pair * (largestQuotient + 1) = omega (arith, y-is, c .before .half .ensures, whole-most s) in
+      i-cast (le-of-mul-le-mul-left l (omega (arith, n-limits s))) tt
 
   even-is : Reads (pos 2 *ℤ toZ w64 (ofZ w64 (toZ w64 (y / pair) -ℤ pos many))) (pos 2 *ℤ (pos (y / pair) -ℤ pos many)) (2 * (largestQuotient + 1 + many))
   even-is = i* (i-lit 2) (i-kept (i- pairs-is (i-lit many)) tt)
 
+  -- both are fewer than a half, and the most that are
+  fewer : 2 * before < n s
+  fewer = omega (arith, n-limits s, c .before .half .ensures)
+
+  most : n s ≤ 2 * before + 2
+  most = omega (arith, n-limits s, c .before .half .ensures)
+
+  alike : before + after ≡ 2 * before
+  alike = omega (arith, n-limits s, c .before .half .ensures, c .half2 .ensures)
+
 result-is : (c : tie.After-odd) → let b = c .before in
     Reads (toZ w64 (ofZ w64 (pos 2 *ℤ toZ w64 (ofZ w64 (toZ w64 (y b / pair b) -ℤ pos many)))) -ℤ toZ w64 (ofZ w64 (c .odd .result)))
-    (pos 2 *ℤ (pos (y b / pair b) -ℤ pos many) -ℤ cond (leb (y b % pair b) (2 * less b)) (pos 1) (pos 0)) (2 * (largestQuotient + 1 + many) + 1)
-result-is c = let b = c .before in i- (i-kept (even-is b) tt) (i-call (c .odd .ok) (c .odd .ensures) (bit-within (leb (y b % pair b) (2 * less b))))
+    (pos 2 *ℤ (pos (y b / pair b) -ℤ pos many) -ℤ cond (leb (y b % pair b) (before b + after b)) (pos 1) (pos 0)) (2 * (largestQuotient + 1 + many) + 1)
+result-is c = let b = c .before in i- (i-kept (even-is b) tt) (i-call (c .odd .ok) (c .odd .ensures) (bit-within (leb (y b % pair b) (before b + after b))))
 
 cast-n : tie.Need-cast-n
 cast-n c = i-unsigned (d-is c) tt
@@ -105,29 +121,38 @@ cast-n c = i-unsigned (d-is c) tt
 mul-pair : tie.Need-mul-pair
 mul-pair c = record { fits = omega (arith, n-limits c) }
 
-below-half-requires : tie.Need-below-half-requires
-below-half-requires c κs = omega (arith, n-limits c)
+sub-half : tie.Need-sub-half
+sub-half c = omega (arith, n-limits c)
+
+half-requires : tie.Need-half-requires
+half-requires c κs = search needs
+
+sub-half-2 : tie.Need-sub-half-2
+sub-half-2 c = omega (arith, n-limits (c .before))
+
+half-requires-2 : tie.Need-half-requires-2
+half-requires-2 c κs = search needs
 
 mul-y : tie.Need-mul-y
-mul-y c = i-fits (twice (c .before)) tt
+mul-y c = i-fits (twice (s c)) tt
 
 mul-y-2 : tie.Need-mul-y-2
-mul-y-2 c = i-fits (multiple (c .before)) tt
+mul-y-2 c = i-fits (multiple (s c)) tt
 
 add-y : tie.Need-add-y
-add-y c = i-fits (sum (c .before)) tt
+add-y c = i-fits (sum (s c)) tt
 
 cast-y : tie.Need-cast-y
-cast-y c = i-unsigned (i-kept (sum (c .before)) tt) tt
+cast-y c = i-unsigned (i-kept (sum (s c)) tt) tt
 
 add-y-2 : tie.Need-add-y-2
-add-y-2 c = record { fits = omega (arith, n-limits (c .before), c .below-half .ensures) }
+add-y-2 c = record { fits = omega (arith, n-limits (s c), c .before .half .ensures) }
 
 add-y-3 : tie.Need-add-y-3
-add-y-3 c = record { fits = omega (arith, whole-most (c .before), n-limits (c .before), c .below-half .ensures) }
+add-y-3 c = record { fits = omega (arith, whole-most (s c), n-limits (s c), c .before .half .ensures) }
 
 div-even : tie.Need-div-even
-div-even c = search needs
+div-even c = omega (arith, n-limits (s c))
 
 cast-even : tie.Need-cast-even
 cast-even c = sfits64 (pairs-is c .bound) (omega arith)
@@ -139,18 +164,22 @@ mul-even : tie.Need-mul-even
 mul-even c = i-fits (even-is c) tt
 
 rem-odd : tie.Need-rem-odd
-rem-odd c = search needs
+rem-odd c = omega (arith, n-limits (s c))
+
+add-odd : tie.Need-add-odd
+add-odd c = record { fits = omega (arith, n-limits (s c), c .before .half .ensures, c .half2 .ensures) }
 
 odd-requires : tie.Need-odd-requires
-odd-requires c κs = omega (arith, n-limits (c .before), c .below-half .ensures)
+odd-requires c κs = search needs
 
 sub-result : tie.Need-sub-result
 sub-result c = i-fits (result-is c) tt
 
 returns : tie.Need-returns
-returns c = let b = c .before in let s = b .before in
+returns c = let b = c .before in let s = s b in let r = y b % pair b in
     i-kept (result-is c) tt .eq
-    ∙ by-pairs (x s) (n s) many (whole s) (less b) (y b / pair b) (y b % pair b) (raised s ∙ ap pos (sym (whole-is s))) (sym (y-is b .0)) (y-is b .1) (b .below-half .ensures .0) (b .below-half .ensures .1)
+    ∙ ap (λ (k : ℕ). pos 2 *ℤ (pos (y b / pair b) -ℤ pos many) -ℤ cond (leb r k) (pos 1) (pos 0)) (alike b)
+    ∙ by-pairs (x s) (n s) many (whole s) (before b) (y b / pair b) r (raised s ∙ ap pos (sym (whole-is s))) (sym (y-is b .0)) (y-is b .1) (fewer b) (most b)
     ∙ ap (toGrain (x s)) (n-is s)
 
 pub to-grain-spec : {M : Type 1} → statement M
@@ -159,7 +188,10 @@ to-grain-spec =
     (tie.spec
     cast-n
     mul-pair
-    below-half-requires
+    sub-half
+    half-requires
+    sub-half-2
+    half-requires-2
     mul-y
     mul-y-2
     add-y
@@ -171,6 +203,7 @@ to-grain-spec =
     sub-even
     mul-even
     rem-odd
+    add-odd
     odd-requires
     sub-result
     returns)
