@@ -1,23 +1,27 @@
-//! What the documents show, beside the separately written program and the repository: README's sample and its members' sheet, METHOD's rows
-//! and those that are stored, the runs and means of its part 3.9, its flooded January, its lengths of the final trend, its seasonal filters, its
-//! weights by years, its month order, its members' sheets and its group that stays whole, the wrong programs that CONTRACTS names. METHOD's other
-//! numbers are in documents_rules.rs and documents_pencil.rs, refusal sheets in documents_refusals.rs, the header's comments in
-//! documents_header.rs.
+//! What the documents show, beside the separately written program and the repository: README's sample and its members' sheet, METHOD's
+//! rows, what they are over and those that are stored, the runs and means of its part 3.9, its flooded January, its lengths of the final
+//! trend, its seasonal filters, its weights by years, its month order, its members' sheets and its group that stays whole, the wrong
+//! programs that CONTRACTS names. METHOD's other numbers are in documents_rules.rs and documents_pencil.rs, refusal sheets in
+//! documents_refusals.rs, the header's comments in documents_header.rs.
 
 mod document;
 
-use document::{between, cells, document, numbers, root, without_commas};
+use document::{between, cells, document, in_digits, numbers, part, root, without_commas};
 use separate::calendar::labels;
 use separate::columns::by_month;
 use separate::decompose::decompose_fitting;
 use separate::desk::bytes_of;
 use separate::extremes::{neighbours, replacement, RunValue};
+use separate::fraction::Fraction;
 use separate::generators::book_series;
 use separate::noise::Noise;
-use separate::pass::pass;
+use separate::pass::{pass, two_by_twelve, Placed};
 use separate::print::printed;
 use separate::rounding::nearest_even;
-use separate::rows::{henderson_at, henderson_rows, three_by_five, three_by_nine, three_by_three, HendersonRows, ThreeByFive, ThreeByNine, LENGTHS};
+use separate::rows::{
+    henderson_at, henderson_rows, musgrave_ratio, three_by_five, three_by_nine, three_by_three, HendersonRows, ThreeByFive, ThreeByNine,
+    ThreeByThree, LENGTHS, MILLION,
+};
 use separate::seasonality::{chosen, questions};
 use separate::sheet::{self, length_of, read_sheet, whole_in, Cell};
 use separate::spread::{two_spreads, weights};
@@ -62,6 +66,38 @@ fn method_has_every_row() {
     assert_eq!(rows(shown), nine.collect::<Vec<_>>());
     let full = shown.lines().find(|line| line.starts_with("    ")).map(numbers);
     assert_eq!(full, Some(three_by_nine(5, 5).weights));
+}
+
+/// The separately written program sums twelve months twice; its weights are what a single one gives in the months around it.
+#[test]
+fn method_has_the_row_of_2x12() {
+    let mut one = vec![0; 36];
+    one[18] = 1;
+    let results = two_by_twelve(&Placed::whole_series(one));
+    // The latest result takes the one as its oldest value.
+    let row: Vec<i128> = results.values.iter().rev().map(|&(weight, _)| weight).filter(|&weight| weight != 0).collect();
+    let (over, side) = (results.values[0].1, results.first as i128);
+    let text = part("2.2");
+    assert_eq!(text.lines().find(|line| line.starts_with("    ")).map(numbers), Some(row.clone()));
+    assert_eq!(numbers(&in_digits(between(&text, "over ", " of the middle one"))), [over, row.len() as i128, side]);
+    assert_eq!(numbers(&in_digits(between(&text, "only where ", " values"))), [side]);
+}
+
+/// What the other rows are over, and D of Henderson's ends.
+#[test]
+fn method_has_every_denominator() {
+    let over = |number: &str| part(number).split("over ").skip(1).map(|behind| numbers(behind)[0]).collect::<Vec<i128>>();
+    assert_eq!(over("2.3")[0], ThreeByThree.row(2, 2).divisor);
+    assert_eq!(over("2.4"), [ThreeByFive.row(3, 3).divisor]);
+    assert_eq!(over("2.5"), LENGTHS.map(|terms| henderson_rows(terms).divisor));
+    assert_eq!(over("2.6")[0], MILLION);
+    assert_eq!(over("2.8")[0], three_by_nine(5, 5).divisor);
+    let ends = part("2.6");
+    let shown: Vec<Vec<i128>> = ends.lines().filter(|line| line.contains(" terms, D = ")).map(numbers).collect();
+    assert_eq!(shown.len(), LENGTHS.len());
+    for (terms, line) in LENGTHS.into_iter().zip(shown) {
+        assert_eq!((line[0], Fraction::new(line[1], line[2])), (terms as i128, musgrave_ratio(terms)));
+    }
 }
 
 /// Henderson's rows as the code stores them: those for the start, the middle row, those for the end, each filled up with zeros.
@@ -114,19 +150,29 @@ fn method_has_the_neighbours_of_its_runs() {
     }
 }
 
-/// The means of METHOD 3.9: a value between four neighbours, by its weight; of weight 1,000 it stays.
+/// The means of METHOD 3.9: a value between four neighbours, by its weight, and between two; of weight 1,000 it stays.
 #[test]
 fn method_has_means_by_weight() {
-    let method = without_commas(&document("docs/METHOD.md"));
-    let sentence = between(&method, "With neighbours 100, 200, 300 and 401, a value of -50000 ", ". With");
-    let shown = sentence.split("; ").map(|part| (numbers(between(part, "of weight ", " "))[0], *numbers(part).last().expect("a mean")));
-    let worked = [0u16, 500, 999, 1000].map(|weight| {
-        let values = [100, 200, -50_000, 300, 401].into_iter().enumerate();
-        let run: Vec<RunValue> = values.map(|(year, value)| RunValue { year, value, weight: if year == 2 { weight } else { 1000 } }).collect();
-        let (upper, lower) = replacement(&run, 2).mean;
-        (i128::from(weight), i128::from(nearest_even(upper, lower)))
+    let value = -50_000;
+    let mean = |weight: u16, before: &[i64], after: &[i64]| {
+        let values = before.iter().map(|&other| (other, 1000)).chain([(value, weight)]).chain(after.iter().map(|&other| (other, 1000)));
+        let run: Vec<RunValue> = values.enumerate().map(|(year, (value, weight))| RunValue { year, value, weight }).collect();
+        let (upper, lower) = replacement(&run, before.len()).mean;
+        (upper, lower, upper as f64 / lower as f64, nearest_even(upper, lower))
+    };
+    let of_four = |weight: u16| mean(weight, &[100, 200], &[300, 401]);
+    let (sum, lower, exact, rounded) = of_four(0);
+    let named = format!("With neighbours 100, 200, 300 and 401, a value of {value}");
+    let first = format!("of weight 0 becomes {sum} / {lower} = {exact:.2}, rounded {rounded}");
+    let [second, third] = [500, 999].map(|weight| {
+        let (_, lower, exact, rounded) = of_four(weight);
+        format!("of weight {weight} it becomes ({weight} · {value} + {sum}) / {lower} = {exact:.1}, rounded {rounded}")
     });
-    assert_eq!(shown.collect::<Vec<_>>(), worked);
+    let last = format!("of weight 1000 it stays {}.", of_four(1000).3);
+    let (_, _, exact, rounded) = mean(0, &[100], &[401]);
+    let of_two = format!("With the neighbours 100 and 401 alone, of weight 0, it becomes {exact:.1}, rounded {rounded}.");
+    let words = format!("{named} {first}; {second}; {third}; {last} {of_two}");
+    assert!(part("3.9").contains(&words), "{words}");
 }
 
 #[test]

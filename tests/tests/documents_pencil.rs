@@ -3,7 +3,7 @@
 
 mod document;
 
-use document::{between, cells_of, document, numbers, part, without_brackets};
+use document::{between, cells_of, document, in_digits, numbers, part, without_brackets};
 use separate::fraction::Fraction;
 use separate::noise::Noise;
 use separate::pass::{henderson, over_runs, pass, two_by_twelve, Fractions, Placed};
@@ -14,18 +14,7 @@ use separate::spread::{correction, two_spreads, units, weight};
 
 // What a line says.
 
-const COUNTS: [&str; 12] = ["one", "two", "three", "four", "five", "six", "seven", "eight", "nine", "ten", "eleven", "twelve"];
 const ORDINALS: [&str; 6] = ["first", "second", "third", "fourth", "fifth", "sixth"];
-
-/// A text with counts in digits.
-fn in_digits(text: &str) -> String {
-    let digits = |word: &str| {
-        let bare = word.trim_end_matches([',', ';', ':']);
-        let place = COUNTS.iter().position(|&count| count == bare)?;
-        Some(word.replace(bare, &(place + 1).to_string()))
-    };
-    text.split(' ').map(|word| digits(word).unwrap_or(word.to_string())).collect::<Vec<_>>().join(" ")
-}
 
 /// The place that a word names, from 0.
 fn ordinal(word: &str) -> Option<usize> {
@@ -186,8 +175,10 @@ fn check_part_of_a_table(what: &str, gives: &str) {
     let &[first, last, months, number, .., zero, outside] = &said[..] else { panic!("{what}") };
     let of_a_pass = pass(&vec![0; months as usize]).si1;
     assert_eq!((of_a_pass.first as i128, of_a_pass.last() as i128), (first, last), "{what}");
+    let places = &said[4..said.len() - 2];
+    assert_eq!(places.len(), gives.split("; ").count(), "{what}");
     let mut due = Vec::new();
-    for (month, piece) in said[4..said.len() - 2].iter().zip(gives.split("; ")) {
+    for (month, piece) in places.iter().zip(gives.split("; ")) {
         let (results, at) = piece.split_once(" at t = ").expect("months");
         if results != "the same" {
             due = numbers(results).into_iter().map(Fraction::whole).collect();

@@ -1,5 +1,5 @@
 //! The refusal sheets of METHOD, README and the header, beside the library and the separately written program: the numbers of every row, its
-//! example, and the orders of the checks, which are those of the ladders.
+//! example, and the orders of the checks, which are those of the ladders; and METHOD's limits of a series, which are those of the rows.
 
 #[path = "proved/columns/mod.rs"]
 mod columns;
@@ -10,7 +10,7 @@ mod proved;
 #[path = "proved/sheet/mod.rs"]
 mod sheet;
 
-use document::{between, cells_of, document, month, numbers, part, table, without_brackets, without_commas};
+use document::{between, cells_of, document, in_digits, month, numbers, part, table, without_brackets, without_commas};
 use doubles::HALF;
 use ladder::{DECOMPOSING, PERIOD, READING, READING_COLUMNS, READING_SHEET, WRITING, WRITING_COLUMNS};
 use proved::{beside, Answer};
@@ -169,6 +169,16 @@ fn rows_by_their_numbers() {
     let header = document("include/vepsjalm.h");
     let (headers, lengths) = (limits(7), limits(9));
     assert_eq!(numbers(between(&header, "A file's header has ", "The place is")), [headers[0], headers[1], lengths[1], headers[2], lengths[5]]);
+}
+
+/// The limits of METHOD 1.1 are those of rows 1, 2, 3 and 5.
+#[test]
+fn limits_of_a_series() {
+    let text = part("1.1");
+    let shown: Vec<Vec<i128>> = table(&text, "| | least | most |").iter().map(|cells| numbers(&cells[1..].join(" "))).collect();
+    assert_eq!(shown, [[limits(1), limits(2)].concat(), limits(3), limits(5)]);
+    let of_the_fewest = in_digits(between(&text, "With ", " times or more"));
+    assert_eq!(numbers(&of_the_fewest), [limits(1)[0], limits(1)[0] / limits(3)[1]]);
 }
 
 /// What is answered to a row's example, and to the next value, which the row lets pass.

@@ -1,5 +1,6 @@
-//! METHOD's rules by their numbers, beside the separately written program and the library: the tables by which a weight, a length and a filter
-//! are chosen, the distances, the layouts of files and sheets, the lent slices, the printed lines; and that every part which is cited is there.
+//! METHOD's rules by their numbers, beside the separately written program and the library: its halves, the tables by which a weight, a
+//! length and a filter are chosen, the distances, the layouts of files and sheets, the lent slices, the printed lines; and that every part
+//! which is cited is there.
 
 mod document;
 mod proved;
@@ -16,13 +17,26 @@ use separate::exact::{PASS_B_LIMITS, PASS_LIMITS, RESULT_LIMITS};
 use separate::generators::book_series;
 use separate::noise::Noise;
 use separate::print::printed;
-use separate::rounding::nearest_away;
+use separate::rounding::{nearest_away, nearest_even};
 use separate::seasonality::Question;
 use separate::sheet::{self, Cell};
 use separate::spread::weight;
 use std::collections::BTreeSet;
 use std::fs;
 use std::path::Path;
+
+// Rounding.
+
+#[test]
+fn halves_by_both_rules() {
+    let [half, of_minus, more, less] = [1, -1, 3, -3].map(|upper| nearest_even(upper, 2));
+    assert_eq!(half, of_minus);
+    let words = format!("to the even one of them: 1/2 and -1/2 become {half}, 3/2 becomes {more} and -3/2 becomes {less}.");
+    assert!(part("1.3").contains(&words), "{words}");
+    let [half, of_minus] = [1, -1].map(|upper| nearest_away(upper, 2));
+    let words = format!("to the one farther from zero: 1/2 becomes {half} and -1/2 becomes {of_minus}.");
+    assert!(part("1.4").contains(&words), "{words}");
+}
 
 // Tables of which the first line that fits decides.
 

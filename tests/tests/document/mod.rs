@@ -25,6 +25,19 @@ pub fn numbers(line: &str) -> Vec<i128> {
     line.split(|c: char| !c.is_ascii_digit() && c != '-').filter_map(|word| word.parse().ok()).collect()
 }
 
+const COUNTS: [&str; 13] =
+    ["one", "two", "three", "four", "five", "six", "seven", "eight", "nine", "ten", "eleven", "twelve", "thirteen"];
+
+/// A text with counts in digits.
+pub fn in_digits(text: &str) -> String {
+    let digits = |word: &str| {
+        let bare = word.trim_end_matches([',', ';', ':']);
+        let place = COUNTS.iter().position(|&count| count == bare)?;
+        Some(word.replace(bare, &(place + 1).to_string()))
+    };
+    text.split(' ').map(|word| digits(word).unwrap_or(word.to_string())).collect::<Vec<_>>().join(" ")
+}
+
 /// Without the commas inside numbers.
 pub fn without_commas(text: &str) -> String {
     let next = text.chars().skip(1).chain([' ']);
