@@ -41,8 +41,8 @@ rippled = tab 72 (λ t. pos (1000 + 12 * t + (2 * t * t + 13 * t) % 49))
 pub record ChosenByPassC : Type 0 where
   pub trend : yearByYear (pos 0) 6 6 (D12 7 rippled) ≡ map pos (1_096_732 ∷ 1_237_598 ∷ 1_375_082 ∷ 1_530_792 ∷ 1_678_021 ∷ 1_819_587 ∷ [])
 
--- METHOD 4.1, 4.2 and 5.1 (the numbers stand in 4.6): every figure of this series ten times as large. What the Februaries get in B17 and C17, t = 7, 19, ..,
--- 67: B13 and C13 are weighed from start month 7. (By the years from month 1 the last three would get other weights; METHOD has them.)
+-- METHOD 4.1, 4.2 and 5.1 (the numbers stand in 4.6): every figure of this series ten times as large. What the last two Februaries get in B17 and C17, t =
+-- 55 and 67: B13 and C13 are weighed from start month 7. (By the years from month 1 they would get other weights; METHOD has them.)
 pub record WeighedFromJuly : Type 0 where
-  pub b17 : yearByYear 0 7 6 (B17 7 (times 10 rippled)) ≡ 1000 ∷ 1000 ∷ 1000 ∷ 905 ∷ 512 ∷ 750 ∷ []
-  pub c17 : yearByYear 0 7 6 (C17 7 (times 10 rippled)) ≡ 1000 ∷ 1000 ∷ 1000 ∷ 805 ∷ 37 ∷ 402 ∷ []
+  pub b17 : yearByYear 0 55 2 (B17 7 (times 10 rippled)) ≡ 512 ∷ 750 ∷ []
+  pub c17 : yearByYear 0 55 2 (C17 7 (times 10 rippled)) ≡ 37 ∷ 402 ∷ []
