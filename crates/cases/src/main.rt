@@ -1,4 +1,6 @@
 // Prints each desk file that an argument names, after a line with its name.
+#![tactic(auto)]
+
 use libc::STDOUT_FILENO;
 
 fn one(i: usize) {

@@ -1,4 +1,6 @@
 // METHOD 7.6, the wall chart: a row for each year, a column for each of the p months of a year, and a series that starts in month s (1 to p).
+#![tactic(auto)]
+
 ghost use Rattle.std.specs.Prelude.{◌≡◌, ◌<◌, ◌≤◌, min};
 ghost use Rattle.integers.specs.Sums.{sum_n};
 ghost use Rattle.chart.specs.Chart.{Starts, column_of, first_in, in_column, place};

@@ -1,4 +1,6 @@
 // METHOD 8.2: the checks of decomposing, rows 1 to 5.
+#![tactic(auto)]
+
 ghost use Rattle.std.specs.Prelude.{◌≡◌, ◌≤◌};
 ghost use Rattle.refusals.specs.Limits.{most_months};
 ghost use Rattle.checks.specs.Answer.{fitting};

@@ -1,4 +1,6 @@
 // Bytes and decimal numbers stored in a slice. Each function asks room for what it stores and no more, and answers the place after it.
+#![tactic(auto)]
+
 ghost use Rattle.std.specs.Prelude.{◌≡◌, [], ◌∷◌, ◌+◌, ◌≤◌, ◌<◌, length};
 ghost use Rattle.decimals.specs.Decimal.{digit, digits, signed_digits, most_digits, most_signed};
 ghost use Rattle.decimals.specs.Storing.{Stored};

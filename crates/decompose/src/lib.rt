@@ -1,4 +1,6 @@
 // METHOD 8: a series into its tables, or a refusal.
+#![tactic(auto)]
+
 ghost use Rattle.decompose.specs.Promise.{Promise};
 
 use checks::Lengths;

@@ -1,5 +1,7 @@
 // The two arrays of a desk file: n figures, and n weights. An array starts at byte `from`. It is in the month order of a series that starts in month
 // s of p in a year (METHOD 7.6); with p = s = 1 that is the order of t.
+#![tactic(auto)]
+
 ghost use Rattle.std.specs.Prelude.{cond, ◌++◌, ◌≡◌, min, ◌*◌, ◌+◌, ◌≤◌, ltb, pos, drop, length};
 ghost use Rattle.std.proofs.lemmas.List.Edits.{sets};
 ghost use Rattle.refusals.specs.declared.Found.TheVariants.{At, Nowhere};

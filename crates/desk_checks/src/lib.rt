@@ -1,4 +1,6 @@
 // METHOD 8.2, the checks of a desk file in either form, and of a series to be written in either.
+#![tactic(auto)]
+
 ghost use Rattle.std.specs.Prelude.{◌≡◌, ◌≤◌};
 ghost use Rattle.refusals.specs.Limits.{most_months};
 ghost use Rattle.desk_forms.specs.Header.{count_in, series};

@@ -1,4 +1,6 @@
 // METHOD 7.7 and 7.8, the desk file by calendar month: reading and writing it, and moving a file from one form to the other.
+#![tactic(auto)]
+
 ghost use Rattle.desk_forms.specs.Header.{series};
 ghost use Rattle.desk_columns.specs.ReadColumns.{ReadColumnsDone};
 ghost use Rattle.desk_columns.specs.WriteColumns.{WriteColumnsDone};

@@ -1,4 +1,6 @@
 // METHOD 7.2, 7.3, 7.7 and 7.8 for both forms of a desk file at once: the checks first, and where none applies, the slices.
+#![tactic(auto)]
+
 ghost use Rattle.desk_forms.specs.Header.{series};
 ghost use Rattle.desk_either.specs.Either.{MoveEither, ReadEither, WriteEither};
 

@@ -1,4 +1,6 @@
 // METHOD 7.2 and 7.3, the plain desk file: reading and writing a series with its weights.
+#![tactic(auto)]
+
 ghost use Rattle.desk_forms.specs.Header.{series};
 ghost use Rattle.desk_file.specs.ReadFile.{ReadDone};
 ghost use Rattle.desk_file.specs.WriteFile.{WriteDone};

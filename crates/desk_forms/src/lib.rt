@@ -1,4 +1,6 @@
 // METHOD 7, the two forms of a desk file: what differs between them, and their parts read, written and moved.
+#![tactic(auto)]
+
 ghost use Rattle.std.specs.Prelude.{◌≡◌, ◌≤◌, length};
 ghost use Rattle.desk_forms.specs.Header.{length_for};
 ghost use Rattle.desk_forms.specs.Forms.{front_of, months_in, start_of, year_of};

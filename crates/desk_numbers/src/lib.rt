@@ -1,5 +1,7 @@
 // METHOD 8.5, reading, writing and moving a desk file for callers in other languages: an answer is a number, 0 for success, else the refusal's number.
 // Crate `vepsjalm` exports these functions.
+#![tactic(auto)]
+
 ghost use Rattle.desk_file.specs.WriteFile.{write_says};
 ghost use Rattle.desk_numbers.specs.Promises.{SizeTold};
 

@@ -1,4 +1,6 @@
 // METHOD 7.10 and 7.11: doubles in bytes, and those that count.
+#![tactic(auto)]
+
 ghost use Rattle.std.specs.Prelude.{◌≡◌, ◌+◌, ◌≤◌, true, length, from_bits};
 ghost use Rattle.std.specs.Float.{binary64};
 ghost use Rattle.little_endian.specs.Bytes.{Number};

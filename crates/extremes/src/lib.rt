@@ -1,4 +1,6 @@
 // METHOD 5: spreads, weights and corrections. This file has what other crates call.
+#![tactic(auto)]
+
 ghost use Rattle.std.specs.Prelude.{◌≡◌, ◌≤◌};
 ghost use Rattle.integers.specs.Sizes.{◌within◌};
 ghost use Rattle.refusals.specs.Limits.{most_months, full_weight};

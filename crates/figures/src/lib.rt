@@ -1,4 +1,6 @@
 // METHOD 4: what is worked from the figures month by month. B1 is never stored but as X: it is the figures times 1,000 wherever it is wanted.
+#![tactic(auto)]
+
 ghost use Rattle.std.specs.Prelude.{◌≡◌, ◌<◌, length, get_or, pos, ◌-ℤ◌, ◌*ℤ◌};
 ghost use Rattle.integers.specs.Lists.{◌‼◌};
 ghost use Rattle.refusals.specs.Limits.{unit};

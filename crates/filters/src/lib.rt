@@ -1,4 +1,6 @@
 // METHOD 2: every moving average, by one filter over constant rows.
+#![tactic(auto)]
+
 ghost use Rattle.std.specs.Prelude.{◌≡◌, ◌+◌, ◌*◌, ◌-◌, ◌≤◌, ◌<◌, min, [], length, pos};
 ghost use Rattle.integers.specs.Sizes.{◌within◌};
 ghost use Rattle.integers.specs.Lists.{◌‼◌};

@@ -94,7 +94,7 @@ i_within {B = B} h = subst (λ (y : ℤ). y within B) (sym h.eq) h.bound
 
 -- a call's result; a cast from an unsigned number
 pub i_call : {r z : ℤ} {B : ℕ} → mag r < 2 ^ 63 → r ≡ z → z within B → Reads (to_z w64 (of_z w64 r)) z B
-i_call f e h = record { eq = to_z-of_z (record { sfits = f }) ∙ e; bound = h }
+i_call f e h = record { eq = to_z-of_z {w = w64} (record { sfits = f }) ∙ e; bound = h }
 
 pub i_cast : {n B : ℕ} → n ≤ B → Room B → Reads (to_z w64 n) (pos n) B
 i_cast h k = i_in (record { abs = h }) k
@@ -116,7 +116,7 @@ i_unsigned {n = n} {B = B} h k = unsigned h.eq (omega (arith, h.bound.abs, ltb�
 
 -- what a call returned and a local keeps, read again
 pub kept : {z v : ℤ} → mag z < 2 ^ 63 → z ≡ v → to_z w64 (of_z w64 z) ≡ v
-kept m e = to_z-of_z (record { sfits = m }) ∙ e
+kept m e = to_z-of_z {w = w64} (record { sfits = m }) ∙ e
 
 -- what the rounding functions ask, and how large a numerator then is
 pub rounds : {t u x d : ℤ} {A B : ℕ} → Reads t x A → Reads u d B → A ≤ largest_quotient * nat_abs d → B ≤ largest_divisor → pos 0 <ℤ d → Rounds t u

@@ -1,4 +1,6 @@
 // Functions of whole numbers: roundings, size, root.
+#![tactic(auto)]
+
 ghost use Rattle.std.specs.Prelude.{◌≡◌, cond, ◌+◌, ◌*◌, ◌≤◌, ◌<◌, leb, pos, nat_abs};
 ghost use Rattle.integers.specs.Rounding.{half_up, away_from_zero, to_grain};
 ghost use Rattle.integers.specs.Root.{root};

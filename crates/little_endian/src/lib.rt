@@ -1,4 +1,6 @@
 // Numbers as bytes, low byte first, and signed numbers as the numbers that their bits make.
+#![tactic(auto)]
+
 ghost use Rattle.std.specs.Prelude.{◌≡◌, ◌+◌, ◌<◌, ◌≤◌, length};
 ghost use Rattle.std.proofs.lemmas.List.Edits.{sets};
 ghost use Rattle.little_endian.specs.Bytes.{AreBytes, bytes_of, Number, signed, word};

@@ -1,4 +1,6 @@
 // METHOD 7.10 to 7.13, the members' sheet: a series read from doubles, with its revisions.
+#![tactic(auto)]
+
 ghost use Rattle.members_sheet.specs.ReadSheet.{SheetDone};
 
 use refusals::Refusal;

@@ -1,4 +1,6 @@
 // METHOD 3: steps 1 to 7 on one series, in lent slices: the stages that every pass has, and a pass that replaces no value.
+#![tactic(auto)]
+
 ghost use Rattle.std.specs.Prelude.{◌≡◌, ◌+◌, ◌-◌, ◌≤◌, ◌<◌, length, pos, ◌-ℤ◌};
 ghost use Rattle.integers.specs.Sizes.{◌within◌};
 ghost use Rattle.integers.specs.Filling.{Filled};

@@ -1,4 +1,6 @@
 // METHOD 3.8 and 4.1: pass B on one series, in lent slices: steps 1 to 7, with extreme values of SI1 and SI2 replaced.
+#![tactic(auto)]
+
 ghost use Rattle.std.specs.Prelude.{◌≡◌, ◌-◌, length, pos};
 ghost use Rattle.integers.specs.Filling.{Filled};
 ghost use Rattle.refusals.specs.Limits.{months_of_year};

@@ -1,4 +1,6 @@
 // METHOD 9: the printing program's input and output around the text of print_tables. What the system reads and writes is in no contract.
+#![tactic(auto)]
+
 ghost use Rattle.std.specs.Prelude.{◌≡◌, ◌+◌, ◌≤◌, length};
 ghost use Rattle.refusals.specs.Limits.{most_months};
 ghost use Rattle.desk_forms.specs.File.{file_length};

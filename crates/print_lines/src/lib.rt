@@ -1,4 +1,6 @@
 // METHOD 9: the lines that are printed, put together in a byte array. A function that puts something answers the place after it.
+#![tactic(auto)]
+
 ghost use Rattle.std.specs.Prelude.{◌≡◌, ◌+◌, ◌*◌, ◌≤◌, ◌<◌, length};
 ghost use Rattle.refusals.specs.Limits.{most_months};
 ghost use Rattle.refusals.specs.Sheet.{row};

@@ -1,5 +1,7 @@
 // METHOD 9, the printing program: a desk file into the text of its tables, put together in a byte array. A function that puts something
 // answers the place after it.
+#![tactic(auto)]
+
 ghost use Rattle.std.specs.Prelude.{◌≤◌, length};
 ghost use Rattle.refusals.specs.Limits.{most_months};
 ghost use Rattle.decimals.specs.Storing.{Stored};

@@ -1,4 +1,6 @@
 // METHOD 8.1, the refusal sheet, and the limits that it speaks of (METHOD 1 and 7.5).
+#![tactic(auto)]
+
 ghost use Rattle.std.specs.Prelude.{not, ◌≡◌, ◌≤◌};
 ghost use Rattle.refusals.specs.First.{first_above, first_outside};
 ghost use Rattle.refusals.specs.Inside.{figure_inside, start_inside, weight_inside, years_inside};

@@ -1,4 +1,6 @@
 // METHOD 3.9: extreme values replaced by means of their neighbours in the month's run. Runs are read at stride twelve, and none is copied.
+#![tactic(auto)]
+
 ghost use Rattle.std.specs.Prelude.{◌≡◌, ◌+◌, ◌*◌, ◌≤◌, ◌<◌, length, pos, ◌+ℤ◌, ◌*ℤ◌};
 ghost use Rattle.integers.specs.Sizes.{◌within◌};
 ghost use Rattle.integers.specs.Rounding.{to_grain};

@@ -1,4 +1,6 @@
 // METHOD 2: the stored rows of the filters, in constant tables; a row and a column find a weight.
+#![tactic(auto)]
+
 pub mod henderson_13;
 pub mod henderson_23;
 pub mod henderson_9;

@@ -1,4 +1,6 @@
 // METHOD 8.3 and 8.4: the scratch that is lent to decomposing.
+#![tactic(auto)]
+
 ghost use Rattle.std.specs.Prelude.{◌≡◌, ◌≤◌, leb, length};
 ghost use Rattle.refusals.specs.Limits.{most_months};
 ghost use Rattle.scratch.specs.Scratch.{scratch_for, zeroed};

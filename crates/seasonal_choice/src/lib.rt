@@ -1,4 +1,6 @@
 // METHOD 4.6: the seasonal filter of pass D, chosen by noise.
+#![tactic(auto)]
+
 ghost use Rattle.std.specs.Prelude.{◌≡◌, ◌≤◌};
 ghost use Rattle.refusals.specs.Limits.{months_of_year};
 ghost use Rattle.series.specs.Promises.{most_change};

@@ -1,4 +1,6 @@
 // Series by month: their differences and changes, and slices whose front becomes 0.
+#![tactic(auto)]
+
 ghost use Rattle.std.specs.Prelude.{◌≡◌, ◌++◌, ◌*◌, ◌-◌, ◌≤◌, ◌<◌, length, drop, pos, ◌-ℤ◌};
 ghost use Rattle.integers.specs.Lists.{◌‼◌, tab};
 ghost use Rattle.series.specs.Operations.{minus, change_into, changes};

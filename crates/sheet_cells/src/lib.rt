@@ -1,4 +1,6 @@
 // METHOD 7.10 to 7.13, one cell of a members' sheet: what it holds, whether it is accepted, and what it adds to the series and to the total revision.
+#![tactic(auto)]
+
 ghost use Rattle.std.specs.Prelude.{◌≡◌, ◌+◌, ◌≤◌, ◌<◌, length};
 ghost use Rattle.sheet_cells.specs.Cells.{with_month, imported_at, cell_at, newest, revised_by};
 ghost use Rattle.sheet_cells.specs.CellChecks.{cell_checks};

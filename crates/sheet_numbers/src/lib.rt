@@ -1,5 +1,7 @@
 // METHOD 8.5, reading a members' sheet for callers in other languages: the answer is a number, 0 for success, else the refusal's number. Crate `vepsjalm`
 // exports this function.
+#![tactic(auto)]
+
 ghost use Rattle.sheet_numbers.specs.SheetNumbers.{SheetNumbers};
 
 use members_sheet::SheetReading;

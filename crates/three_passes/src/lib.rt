@@ -1,4 +1,6 @@
 // METHOD 4: the three passes, from figures that were checked to the tables and weights. The tables that the caller lends are the work space.
+#![tactic(auto)]
+
 ghost use Rattle.std.specs.Prelude.{◌≡◌, ◌≤◌, length};
 ghost use Rattle.refusals.specs.Limits.{unit};
 ghost use Rattle.series.specs.Operations.{times};

@@ -1,4 +1,6 @@
 // METHOD 4.5: the length of the final trend's filter, by noise.
+#![tactic(auto)]
+
 ghost use Rattle.std.specs.Prelude.{◌≡◌, ◌≤◌};
 ghost use Rattle.series.specs.Promises.{most_change};
 ghost use Rattle.trend_length.specs.TrendLength.{month_changes, terms_for, trend_length};

@@ -1,5 +1,7 @@
 // METHOD 8.5: decomposing, reading, writing and moving desk files, and reading members' sheets, for callers in other languages: an answer is a number, 0
 // for success, else the refusal's number.
+#![tactic(auto)]
+
 ghost use Rattle.desk_forms.specs.Header.{series};
 ghost use Rattle.desk_numbers.specs.DeskNumbers.{BackNumbers, ForwardNumbers, ReadColumnsNumbers, ReadNumbers, WriteColumnsNumbers, WriteNumbers};
 ghost use Rattle.sheet_numbers.specs.SheetNumbers.{SheetNumbers};

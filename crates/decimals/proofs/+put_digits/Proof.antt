@@ -33,14 +33,14 @@ module _ (k : ℕ) where
   digit-requires : lts.Need-digit-requires (claims k) (asked-at k) put-digits.Post
   digit-requires c κs = omega arith
 
-  put-byte-requires : lts.Need-put-byte-requires (claims k) (asked-at k) put-digits.Post
+  put-byte-requires : lts.Need-put_byte-requires (claims k) (asked-at k) put-digits.Post
   put-byte-requires c κs = omega (arith, one-long c.before.before.before.before.args.n (omega arith))
 
   same_length : lts.Need-same-length (claims k) (asked-at k) put-digits.Post
   same_length c = c.before.before.put_byte.auto.0
 
   returns : lts.Need-returns (claims k) (asked-at k) put-digits.Post
-  returns c = first-digit c.before.before.put_byte.ensures c.before.before.before.digit.ensures (omega arith)
+  returns c = first-digit c.before.before.put_byte-2.ensures c.before.before.before.digit-2.ensures (omega arith)
 
   -- more than one
   put-digits-requires : lts.Need-put-digits-requires (claims k) (asked-at k) put-digits.Post
@@ -53,17 +53,17 @@ module _ (k : ℕ) where
   digit-requires-2 : lts.Need-digit-requires-2 (claims k) (asked-at k) put-digits.Post
   digit-requires-2 c κs = mod-lt _ (omega arith)
 
-  put-byte-requires-2 : lts.Need-put-byte-requires-2 (claims k) (asked-at k) put-digits.Post
+  put-byte-requires-2 : lts.Need-put_byte-requires-2 (claims k) (asked-at k) put-digits.Post
   put-byte-requires-2 c κs = omega (arith, one-longer c.before.before.before.before.before.before.before.before.args.n (omega arith))
 
   same-length-2 : lts.Need-same-length-2 (claims k) (asked-at k) put-digits.Post
   same-length-2 c = c.before.before.put-byte2.auto.0 ∙ c.before.before.before.before.before.before.before.put-digits.auto.0
 
-  returns-2 : lts.Need-returns-2 (claims k) (asked-at k) put-digits.Post
+  returns-2 : lts.Need-returns (claims k) (asked-at k) put-digits.Post
   returns-2 c =
       next-digit
-      c.before.before.before.before.before.before.before.put-digits.ensures
-      c.before.before.put-byte2.ensures
+      c.before.before.before.before.before.before.before.put_digits-last.ensures
+      c.before.before.put_byte-2.ensures
       c.before.before.before.digit2.ensures
       (omega arith)
       (omega (arith, c.before.before.before.before.before.before.before.before.before.before.before.ranges.n.fits))

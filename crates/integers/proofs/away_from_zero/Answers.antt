@@ -1,0 +1,36 @@
+-- `integers::away_from_zero` meets its contract: each value of the code with the number that it is and a bound.
+use Prim.Native.Nat.{◌<◌, ◌+◌, ◌*◌}
+use mathlib.Core.Path.{ap₂, ◌∙◌}
+use native.Mathlib.Omega.{arith}
+use lib.IntN.{pos, nat_abs, ◌*ℤ◌}
+use mir.Syntax.{w64}
+use mir.Val.{to_z, of_z}
+use mir.Facts.{to_z-of_z}
+use Rattle.integers.proofs.SizeLaws.{abs-mul}
+use Rattle.integers.proofs.Signed64.{Reads, i_arg, i_lit, i*, i/, i_kept, i_call, pos-abs, numerator_within}
+use Rattle.integers.specs.Promises.{largest_numerator, largest_divisor, farther}
+use Rattle.integers.proofs.RoundingLaws.{farther-quot, farther-within}
+use Rattle.integers.proofs.away_from_zero.Lts as lts
+use Rattle.integers.proofs.away_from_zero.Tie as tie
+use Rattle.integers.proofs.away_from_zero.Reads as reads
+use Rattle.integers.proofs.away_from_zero.Goals as goal
+
+abbrev Start : Type 0
+Start = lts.Start tie.the-claims reads.Pre reads.Post
+
+abbrev After-farther : Type 0
+After-farther = lts.After-farther tie.the-claims reads.Pre reads.Post
+
+module _ (s : Start) where
+  -- the divisor and its double
+  twice-d : Reads (pos 2 *ℤ to_z w64 (of_z w64 s.args.d)) (pos 2 *ℤ s.args.d) (2 * largest_divisor)
+  twice-d = i* (i_lit 2) (i_arg s.ranges.d s.requires.divisor)
+
+  two-d : 0 < nat_abs (pos 2 *ℤ s.args.d)
+  two-d = omega (arith, abs-mul (pos 2) s.args.d, pos-abs s.args.d s.requires.positive)
+
+numerator : (c : After-farther) → Reads (to_z w64 (of_z w64 c.farther.result)) (farther c.args.x c.args.d) (2 * largest_numerator + largest_divisor)
+numerator c = let s = c in i_call c.farther.type_inv (c.farther.ensures ∙ ap₂ farther (to_z-of_z s.ranges.x) (to_z-of_z s.ranges.d)) (farther-within (numerator_within s.requires) s.requires.divisor)
+
+pub returns : goal.returns
+returns c = let s = c in (i_kept (i/ (numerator c) (i_kept (twice-d s.before) tt)) tt).eq ∙ farther-quot s.args.x s.args.d s.requires.positive

@@ -1,0 +1,6 @@
+-- `series::minus_at` meets its contract: both numbers are small enough for their difference to fit.
+use Rattle.integers.proofs.Signed64.{i-, i_kept, i_in}
+use Rattle.series.proofs.minus_at.Goals as goal
+
+pub returns : goal.returns
+returns c = let s = c in (i_kept (i- (i_in (s.requires.0.left.at s.args.t) tt) (i_in (s.requires.0.right.at s.args.t) tt)) tt).eq
