@@ -9,7 +9,7 @@ ghost use Rattle.checks.specs.Promises.{Checked};
 use refusals::{Found, Refusal, Verdict};
 
 // How long the lent slices are.
-#[derive(Drop)]
+#[derive(Clone, Copy)]
 pub struct Lengths {
     pub d10: usize,
     pub d11: usize,

@@ -6,7 +6,7 @@ ghost use Rattle.decompose.specs.Promise.{Promise};
 use checks::Lengths;
 use refusals::{Refusal, Verdict};
 
-#[derive(Drop)]
+#[derive(Clone, Copy)]
 pub enum Decomposed {
     Tables,
     Refused(Refusal),

@@ -11,14 +11,14 @@ use desk_forms::Form;
 use refusals::{Found, Refusal, Verdict};
 
 // What the checks of a file find: its months, start month and first year, or why it is refused.
-#[derive(Drop)]
+#[derive(Clone, Copy)]
 pub enum Checked {
     Fits { count: usize, start: u8, year: u16 },
     Refused(Refusal),
 }
 
 // What is lent to be filled: slices for figures and weights, by their entries, or an output, by its bytes, for a file in a form.
-#[derive(Drop)]
+#[derive(Clone, Copy)]
 pub enum Lent {
     Slices { figures: usize, weights: usize },
     Bytes(Form, usize),

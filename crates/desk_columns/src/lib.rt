@@ -12,14 +12,14 @@ use desk_forms::Form;
 use refusals::{Refusal, Verdict};
 
 // What reading answers: the months, the start month and the first year of the series, or why it is refused.
-#[derive(Drop)]
+#[derive(Clone, Copy)]
 pub enum ColumnsReading {
     Series { count: usize, start: u8, year: u16 },
     Refused(Refusal),
 }
 
 // What moving back answers: the length of the plain file and the first year, or why the file is refused.
-#[derive(Drop)]
+#[derive(Clone, Copy)]
 pub enum MovingBack {
     Length { size: usize, year: u16 },
     Refused(Refusal),

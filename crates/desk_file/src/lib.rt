@@ -10,14 +10,14 @@ use desk_forms::Form;
 use refusals::{Refusal, Verdict};
 
 // What reading answers: the months and the start month of the series, or why it is refused.
-#[derive(Drop)]
+#[derive(Clone, Copy)]
 pub enum Reading {
     Series { count: usize, start: u8 },
     Refused(Refusal),
 }
 
 // What writing answers: the length of the file, or why the series is refused.
-#[derive(Drop)]
+#[derive(Clone, Copy)]
 pub enum Writing {
     Length(usize),
     Refused(Refusal),

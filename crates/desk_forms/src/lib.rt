@@ -10,7 +10,7 @@ mod parts;
 pub use parts::{fill, move_file, put_file};
 
 // In order of t, or by calendar month with the first year.
-#[derive(Drop)]
+#[derive(Clone, Copy)]
 pub enum Form {
     Plain,
     Columns,

@@ -60,7 +60,7 @@ pub fn unused_at(bytes: &[u8], at: usize) -> bool
 const LARGEST: i64 = refusals::LARGEST_FIGURE as i64;
 
 // The figure that a double is, if it counts.
-#[derive(Drop)]
+#[derive(Clone, Copy)]
 pub enum AsFigure {
     Figure(i32),
     Not,

@@ -26,7 +26,7 @@ use rows::{SeasonalFilter, Terms};
 
 // The shape of a filter's rows: `side` values on each side of a full row, `step` months apart; the rows for one value more before stand `row_step` rows
 // on; rows of `width` places; the denominator of the middle row and that of the others.
-#[derive(Drop)]
+#[derive(Clone, Copy)]
 struct Shape {
     side: usize,
     row_step: usize,

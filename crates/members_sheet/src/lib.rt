@@ -9,14 +9,14 @@ mod checking;
 mod filling;
 
 // What the checks find: the months and the start month of the series, or why the sheet is refused.
-#[derive(Drop)]
+#[derive(Clone, Copy)]
 pub enum SheetChecked {
     Fits { count: usize, start: u8 },
     Refused(Refusal),
 }
 
 // What reading answers: the months, the start month and the total revision of the series, or why the sheet is refused.
-#[derive(Drop)]
+#[derive(Clone, Copy)]
 pub enum SheetReading {
     Series { count: usize, start: u8, total: f64 },
     Refused(Refusal),

@@ -15,7 +15,7 @@ use refusals::Refusal;
 pub const TEXT_ROOM: usize = 160 * (refusals::MOST_MONTHS + 1);
 
 // What the line of a month shows.
-#[derive(Drop)]
+#[derive(Clone, Copy)]
 struct Month {
     t: u64,
     figure: i64,

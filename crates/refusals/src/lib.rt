@@ -31,7 +31,7 @@ pub const EARLIEST_YEAR: usize = 1;
 pub const LATEST_YEAR: usize = 9999;
 
 // The rows of the sheet, in its order; a row with a place carries it. The number 6 is retired.
-#[derive(Drop)]
+#[derive(Clone, Copy)]
 pub enum Refusal {
     TooShort,
     TooLong,
@@ -49,7 +49,7 @@ pub enum Refusal {
 }
 
 // A row of the refusal sheet: its number, and the place that the refusal tells, 0 for those without one.
-#[derive(Drop)]
+#[derive(Clone, Copy)]
 struct Row(u8, usize);
 
 fn row_of(r: Refusal) -> Row
@@ -96,7 +96,7 @@ fn start_outside(start: u8) -> bool
 }
 
 // No check applies, or the refusal of the first that does.
-#[derive(Drop)]
+#[derive(Clone, Copy)]
 pub enum Verdict {
     Fine,
     Refused(Refusal),
@@ -147,7 +147,7 @@ pub fn weight_above(weight: u16) -> bool
 }
 
 // The first bad element: its place, or that there is none. The loops count the elements that are left.
-#[derive(Drop)]
+#[derive(Clone, Copy)]
 pub enum Found {
     At(usize),
     Nowhere,

@@ -61,7 +61,7 @@ fn nearer(n: usize, t: usize, a: usize, b: usize) -> usize
 }
 
 // The sum and the number of some values.
-#[derive(Drop)]
+#[derive(Clone, Copy)]
 struct SumAndCount {
     sum: i64,
     count: usize,

@@ -11,7 +11,7 @@ pub mod three_by_nine;
 pub const ENDS_HENDERSON: usize = 1000000;
 
 // METHOD 2.3, 2.4 and 2.8: which filter of a month's run.
-#[derive(Drop)]
+#[derive(Clone, Copy)]
 pub enum SeasonalFilter {
     ThreeByThree,
     ThreeByFive,
@@ -19,7 +19,7 @@ pub enum SeasonalFilter {
 }
 
 // METHOD 2.5: how many terms Henderson's filter has.
-#[derive(Drop)]
+#[derive(Clone, Copy)]
 pub enum Terms {
     Nine,
     Thirteen,

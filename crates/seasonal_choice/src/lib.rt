@@ -10,7 +10,7 @@ ghost use Rattle.seasonal_choice.specs.Promises.{Choosable, MonthsKept};
 use rows::SeasonalFilter;
 
 // What one question answers.
-#[derive(Drop)]
+#[derive(Clone, Copy)]
 pub enum Decision {
     Decided(SeasonalFilter),
     Undecided,

@@ -15,14 +15,14 @@ pub const SIZES: usize = 3;
 pub const CELL: usize = 2 * doubles::DOUBLE;
 
 // A month's number and a double of it, together from the reading of its cell to acceptance, and to the slice when the sheet is accepted.
-#[derive(Drop)]
+#[derive(Clone, Copy)]
 pub struct Imported {
     pub month: usize,
     pub double: f64,
 }
 
 // A cell, by its kind; a revision is the old figure and the new one. Each double is with its month.
-#[derive(Drop)]
+#[derive(Clone, Copy)]
 pub enum Cell {
     Gap,
     Figure(Imported),
@@ -30,7 +30,7 @@ pub enum Cell {
 }
 
 // A cell that was read; a malformed one has an unknown kind, or an unused double with a byte that is not zero.
-#[derive(Drop)]
+#[derive(Clone, Copy)]
 pub enum CellRead {
     Known(Cell),
     Malformed,
