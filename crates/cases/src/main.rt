@@ -1,30 +1,24 @@
 // Prints each desk file that an argument names, after a line with its name.
 #![tactic(auto)]
 
-use libc::STDOUT_FILENO;
+use std::env;
+use std::fs::File;
+use std::io;
+use std::io::Print;
 
-fn one(i: usize) {
-    let mut path = io::buffer();
-    let length = os::arg(i, &mut path);
-    if os::errno() != 0 {
-        return;
+fn one(rt: &HostRuntime, path: &str) {
+    match File::open(rt, path) {
+        Ok(mut file) => {
+            let _ = println!(rt; "{path}");
+            print_input::run_on(rt, &mut file, path);
+        }
+        Err(error) => print_input::fail(rt, path, error),
     }
-    let fd = os::open_read(&path[..length]);
-    if fd < 0 {
-        os::fail(&path[..length]);
-        return;
-    }
-    io::write_all(STDOUT_FILENO, &path[..length]);
-    io::write_all(STDOUT_FILENO, b"\n");
-    print_input::run_on(fd, &path[..length]);
-    libc::close(fd);
 }
 
-fn main() {
-    let count = os::arg_count();
-    let mut i = 1;
-    while i < count {
-        one(i);
-        i += 1;
+fn main(rt: HostRuntime) -> io::Result<()> {
+    for path in env::args(&rt)?.skip(1) {
+        one(&rt, path.as_str());
     }
+    Ok(())
 }

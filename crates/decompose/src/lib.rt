@@ -25,9 +25,9 @@ pub fn decompose(
     scratch: &mut [i64],
 ) -> Decomposed
     ensures { Promise start figures.now
-        (record { d10 = d10.entry.now; d11 = d11.old; d12 = d12.old; d13 = d13.old; b17 = b17.old; c17 = c17.old; scratch = scratch.old })
+        (record { d10 = d10.old; d11 = d11.old; d12 = d12.old; d13 = d13.old; b17 = b17.old; c17 = c17.old; scratch = scratch.old })
         result
-        (record { d10 = d10.exit.now; d11 = d11.new; d12 = d12.new; d13 = d13.new; b17 = b17.new; c17 = c17.new; scratch = scratch.new }) }
+        (record { d10 = d10.new; d11 = d11.new; d12 = d12.new; d13 = d13.new; b17 = b17.new; c17 = c17.new; scratch = scratch.new }) }
 {
     let lent = Lengths {
         d10: d10.len(),

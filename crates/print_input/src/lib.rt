@@ -6,37 +6,38 @@ ghost use Rattle.refusals.specs.Limits.{most_months};
 ghost use Rattle.desk_forms.specs.File.{file_length};
 ghost use Rattle.print_input.specs.Promises.{InputPrinted, Within};
 
-use libc::{STDIN_FILENO, STDOUT_FILENO};
+use std::io;
+use std::io::{Eprint, Print, Read};
 
 // Bytes of the longest desk file.
 const LONGEST_FILE: usize = 4 + 6 * refusals::MOST_MONTHS;
 
-// How many bytes were read, or that a read failed.
+// How many bytes were read, or that a read failed, and why.
 #[derive(Clone, Copy)]
 enum Input {
     Bytes(usize),
-    Failed,
+    Failed(io::Error),
 }
 
 // One read: no bytes at the end of the input.
-fn read_some(fd: i32, part: &mut [u8]) -> Input
+fn read_some<F: Read>(from: &mut F, part: &mut [u8]) -> Input
     ensures { Within result part.new }
 {
-    let got = libc::read(fd, part);
-    if got < 0 {
-        return Input::Failed;
+    match from.read(part) {
+        Ok(n) => Input::Bytes(n),
+        Err(error) => Input::Failed(error),
     }
-    Input::Bytes(io::count(got, part))
 }
 
 // Reads until the slice is full or the input ends.
-fn read_input(fd: i32, file: &mut [u8]) -> Input
+fn read_input<F: Read>(from: &mut F, file: &mut [u8]) -> Input
     ensures { Within result file.new }
 {
     let mut n = 0;
     while n < file.len() {
-        let Input::Bytes(more) = read_some(fd, &mut file[n..]) else {
-            return Input::Failed;
+        let more = match read_some(from, &mut file[n..]) {
+            Input::Bytes(more) => more,
+            Input::Failed(error) => return Input::Failed(error),
         };
         if more == 0 {
             break;
@@ -55,22 +56,39 @@ fn put_input(out: &mut [u8; print_lines::TEXT_ROOM], file: &[u8], n: usize) -> u
     print_tables::put_file(out, &file[..n])
 }
 
+// The system's words for an error, without its number.
+fn words(text: &str) -> &str {
+    match text.split_once(" (os error ") {
+        Some((words, _)) => words,
+        None => text,
+    }
+}
+
+// Tells on standard error what failed and why. Where that fails too, nothing is told.
+pub fn fail<R: Eprint + AllocGlobal>(rt: &R, what: &str, error: io::Error) {
+    let Ok(text) = format!(in rt.alloc(); "{error}") else {
+        return;
+    };
+    let _ = eprintln!(rt; "{what}: {}", words(text.as_str()));
+}
+
 // Prints the text of the desk file in standard input.
-pub fn run() {
-    run_on(STDIN_FILENO, b"standard input");
+pub fn run(rt: &HostRuntime) {
+    run_on(rt, &mut rt.stdin(), "standard input");
 }
 
 // The same for any open file, and what it is called where reading fails. A failure is told on standard error, and no refusal is printed
 // for it.
-pub fn run_on(fd: i32, name: &[u8]) {
+pub fn run_on<R: Print + Eprint + AllocGlobal, F: Read>(rt: &R, from: &mut F, name: &str) {
     let mut file = [0u8; LONGEST_FILE + 1];
     let mut out = [0u8; print_lines::TEXT_ROOM];
-    let Input::Bytes(n) = read_input(fd, &mut file) else {
-        os::fail(name);
-        return;
-    };
-    let end = put_input(&mut out, &file, n);
-    if !io::write_all(STDOUT_FILENO, &out[..end]) {
-        os::fail(b"standard output");
+    match read_input(from, &mut file) {
+        Input::Bytes(n) => {
+            let end = put_input(&mut out, &file, n);
+            if let Err(error) = rt.write_all(&out[..end]) {
+                fail(rt, "standard output", error);
+            }
+        }
+        Input::Failed(error) => fail(rt, name, error),
     }
 }

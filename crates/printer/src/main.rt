@@ -1,6 +1,6 @@
 // Prints the tables of the desk file in standard input.
 #![tactic(auto)]
 
-fn main() {
-    print_input::run();
+fn main(rt: HostRuntime) {
+    print_input::run(&rt);
 }

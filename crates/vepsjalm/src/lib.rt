@@ -1,5 +1,5 @@
-// METHOD 8.5: decomposing, reading, writing and moving desk files, and reading members' sheets, for callers in other languages: an answer is a number, 0
-// for success, else the refusal's number.
+// METHOD 8.5: decomposing, reading, writing and moving desk files, and reading members' sheets, as numbers: an answer is 0 for success, else the
+// refusal's number. vepsjalm_c hands each function on to callers in other languages.
 #![tactic(auto)]
 
 ghost use Rattle.desk_forms.specs.Header.{series};
@@ -9,8 +9,7 @@ ghost use Rattle.vepsjalm.specs.Numbers.{DecomposeNumbers};
 
 use decompose::Decomposed;
 
-#[unsafe(no_mangle)]
-pub extern "C" fn vepsjalm_decompose(
+pub fn vepsjalm_decompose(
     figures: &[i32],
     start: u8,
     d10: &mut [i64],
@@ -23,9 +22,9 @@ pub extern "C" fn vepsjalm_decompose(
     place: &mut usize,
 ) -> u8
     ensures { DecomposeNumbers start figures.now
-        (record { d10 = d10.entry.now; d11 = d11.old; d12 = d12.old; d13 = d13.old; b17 = b17.old; c17 = c17.old; scratch = scratch.old })
+        (record { d10 = d10.old; d11 = d11.old; d12 = d12.old; d13 = d13.old; b17 = b17.old; c17 = c17.old; scratch = scratch.old })
         result place.new
-        (record { d10 = d10.exit.now; d11 = d11.new; d12 = d12.new; d13 = d13.new; b17 = b17.new; c17 = c17.new; scratch = scratch.new }) }
+        (record { d10 = d10.new; d11 = d11.new; d12 = d12.new; d13 = d13.new; b17 = b17.new; c17 = c17.new; scratch = scratch.new }) }
 {
     let answer = decompose::decompose(figures, start, d10, d11, d12, d13, b17, c17, scratch);
     let Decomposed::Refused(refusal) = answer else {
@@ -37,8 +36,7 @@ pub extern "C" fn vepsjalm_decompose(
 }
 
 // Reading, writing and moving, as `desk_numbers` answers them.
-#[unsafe(no_mangle)]
-pub extern "C" fn vepsjalm_read(
+pub fn vepsjalm_read(
     file: &[u8],
     figures: &mut [i32],
     weights: &mut [u16],
@@ -52,8 +50,7 @@ pub extern "C" fn vepsjalm_read(
     desk_numbers::read(file, figures, weights, count, start, place)
 }
 
-#[unsafe(no_mangle)]
-pub extern "C" fn vepsjalm_write(
+pub fn vepsjalm_write(
     figures: &[i32],
     start: u8,
     weights: &[u16],
@@ -66,8 +63,7 @@ pub extern "C" fn vepsjalm_write(
     desk_numbers::write(figures, start, weights, out, size, place)
 }
 
-#[unsafe(no_mangle)]
-pub extern "C" fn vepsjalm_read_columns(
+pub fn vepsjalm_read_columns(
     file: &[u8],
     figures: &mut [i32],
     weights: &mut [u16],
@@ -82,8 +78,7 @@ pub extern "C" fn vepsjalm_read_columns(
     desk_numbers::read_columns(file, figures, weights, count, start, year, place)
 }
 
-#[unsafe(no_mangle)]
-pub extern "C" fn vepsjalm_write_columns(
+pub fn vepsjalm_write_columns(
     figures: &[i32],
     start: u8,
     year: u16,
@@ -97,8 +92,7 @@ pub extern "C" fn vepsjalm_write_columns(
     desk_numbers::write_columns(figures, start, year, weights, out, size, place)
 }
 
-#[unsafe(no_mangle)]
-pub extern "C" fn vepsjalm_to_columns(
+pub fn vepsjalm_to_columns(
     file: &[u8],
     year: u16,
     out: &mut [u8],
@@ -110,8 +104,7 @@ pub extern "C" fn vepsjalm_to_columns(
     desk_numbers::to_columns(file, year, out, size, place)
 }
 
-#[unsafe(no_mangle)]
-pub extern "C" fn vepsjalm_from_columns(
+pub fn vepsjalm_from_columns(
     file: &[u8],
     out: &mut [u8],
     size: &mut usize,
@@ -124,8 +117,7 @@ pub extern "C" fn vepsjalm_from_columns(
 }
 
 // Reading a members' sheet, as `sheet_numbers` answers it.
-#[unsafe(no_mangle)]
-pub extern "C" fn vepsjalm_read_sheet(
+pub fn vepsjalm_read_sheet(
     sheet: &[u8],
     figures: &mut [i32],
     count: &mut usize,

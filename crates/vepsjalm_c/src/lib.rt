@@ -1,0 +1,129 @@
+// The static library: the functions of vepsjalm for callers in other languages, under the same names and with the same promises.
+#![tactic(auto)]
+
+ghost use Rattle.desk_forms.specs.Header.{series};
+ghost use Rattle.desk_numbers.specs.DeskNumbers.{BackNumbers, ForwardNumbers, ReadColumnsNumbers, ReadNumbers, WriteColumnsNumbers, WriteNumbers};
+ghost use Rattle.sheet_numbers.specs.SheetNumbers.{SheetNumbers};
+ghost use Rattle.vepsjalm.specs.Numbers.{DecomposeNumbers};
+
+#[unsafe(no_mangle)]
+pub extern "C" fn vepsjalm_decompose(
+    figures: &[i32],
+    start: u8,
+    d10: &mut [i64],
+    d11: &mut [i64],
+    d12: &mut [i64],
+    d13: &mut [i64],
+    b17: &mut [u16],
+    c17: &mut [u16],
+    scratch: &mut [i64],
+    place: &mut usize,
+) -> u8
+    ensures { DecomposeNumbers start figures.now
+        (record { d10 = d10.old; d11 = d11.old; d12 = d12.old; d13 = d13.old; b17 = b17.old; c17 = c17.old; scratch = scratch.old })
+        result place.new
+        (record { d10 = d10.new; d11 = d11.new; d12 = d12.new; d13 = d13.new; b17 = b17.new; c17 = c17.new; scratch = scratch.new }) }
+{
+    vepsjalm::vepsjalm_decompose(figures, start, d10, d11, d12, d13, b17, c17, scratch, place)
+}
+
+#[unsafe(no_mangle)]
+pub extern "C" fn vepsjalm_read(
+    file: &[u8],
+    figures: &mut [i32],
+    weights: &mut [u16],
+    count: &mut usize,
+    start: &mut u8,
+    place: &mut usize,
+) -> u8
+    ensures { ReadNumbers file.now figures.old weights.old
+        result count.new start.new place.new figures.new weights.new }
+{
+    vepsjalm::vepsjalm_read(file, figures, weights, count, start, place)
+}
+
+#[unsafe(no_mangle)]
+pub extern "C" fn vepsjalm_write(
+    figures: &[i32],
+    start: u8,
+    weights: &[u16],
+    out: &mut [u8],
+    size: &mut usize,
+    place: &mut usize,
+) -> u8
+    ensures { WriteNumbers (series start figures.now weights.now) out.old result size.new place.new out.new }
+{
+    vepsjalm::vepsjalm_write(figures, start, weights, out, size, place)
+}
+
+#[unsafe(no_mangle)]
+pub extern "C" fn vepsjalm_read_columns(
+    file: &[u8],
+    figures: &mut [i32],
+    weights: &mut [u16],
+    count: &mut usize,
+    start: &mut u8,
+    year: &mut u16,
+    place: &mut usize,
+) -> u8
+    ensures { ReadColumnsNumbers file.now figures.old weights.old
+        result count.new start.new year.new place.new figures.new weights.new }
+{
+    vepsjalm::vepsjalm_read_columns(file, figures, weights, count, start, year, place)
+}
+
+#[unsafe(no_mangle)]
+pub extern "C" fn vepsjalm_write_columns(
+    figures: &[i32],
+    start: u8,
+    year: u16,
+    weights: &[u16],
+    out: &mut [u8],
+    size: &mut usize,
+    place: &mut usize,
+) -> u8
+    ensures { WriteColumnsNumbers year (series start figures.now weights.now) out.old result size.new place.new out.new }
+{
+    vepsjalm::vepsjalm_write_columns(figures, start, year, weights, out, size, place)
+}
+
+#[unsafe(no_mangle)]
+pub extern "C" fn vepsjalm_to_columns(
+    file: &[u8],
+    year: u16,
+    out: &mut [u8],
+    size: &mut usize,
+    place: &mut usize,
+) -> u8
+    ensures { ForwardNumbers file.now year out.old result size.new place.new out.new }
+{
+    vepsjalm::vepsjalm_to_columns(file, year, out, size, place)
+}
+
+#[unsafe(no_mangle)]
+pub extern "C" fn vepsjalm_from_columns(
+    file: &[u8],
+    out: &mut [u8],
+    size: &mut usize,
+    year: &mut u16,
+    place: &mut usize,
+) -> u8
+    ensures { BackNumbers file.now out.old result size.new year.new place.new out.new }
+{
+    vepsjalm::vepsjalm_from_columns(file, out, size, year, place)
+}
+
+#[unsafe(no_mangle)]
+pub extern "C" fn vepsjalm_read_sheet(
+    sheet: &[u8],
+    figures: &mut [i32],
+    count: &mut usize,
+    start: &mut u8,
+    total: &mut f64,
+    place: &mut usize,
+) -> u8
+    ensures { SheetNumbers sheet.now figures.old
+        result count.new start.new total.new place.new figures.new }
+{
+    vepsjalm::vepsjalm_read_sheet(sheet, figures, count, start, total, place)
+}
