@@ -9,7 +9,7 @@ use Rattle.rows.specs.declared.Terms.{Terms}
 use Rattle.rows.specs.declared.Terms.TheVariants.{Nine, Thirteen, TwentyThree}
 use Rattle.rows.specs.FilterTables.{table_seasonal, table_henderson}
 use Rattle.filters.specs.Filter.{earlier, later, reach}
-use Rattle.rows.specs.Table.{Table, row_for}
+use Rattle.rows.specs.Table.{row_for}
 use Rattle.filters.specs.Sides.{OneSideFull, EnoughMonths, OwnRow, NoPlaceShort}
 
 -- d months before a place and e after it, which with its own are enough for `side` values twice: where fewer than `side` lie within d, they lie within e
