@@ -26,7 +26,7 @@ held_whole {work} l e = record { at = λ t. let q : work ‼ t ≡ pos (get_or l
 
 -- a number that is not negative is read by a cast
 pub whole-cast : {z : ℤ} → mag z < 2 ^ 63 → z ≡ pos (nat_abs z) → T (non_neg (to_z w64 (of_z w64 z))) × Fits w64 (nat_abs (to_z w64 (of_z w64 z)))
-whole-cast {z} h e = unsigned (to_z-of_z (record { sfits = h }) ∙ e) (omega (arith, nat_abs-le z h))
+whole-cast {z} h e = unsigned (to_z-of_z {w = w64} (record { sfits = h }) ∙ e) (omega (arith, nat_abs-le z h))
 
 -- ---- the sizes in a slice
 pub length-sizes : (work : List ℤ) → length (sizes_in work) ≡ length work

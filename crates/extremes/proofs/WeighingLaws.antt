@@ -6,7 +6,7 @@ use mathlib.Core.List.{List}
 use native.Mathlib.Nat.{mul-le-mul, le-div_iff_mul-le, div-lt_iff_lt-mul}
 use native.Mathlib.Omega.{arith}
 use lib.Dec.{ltb, eqb}
-use lib.ListN.{length, get_or}
+use lib.ListN.{length}
 use lib.IntN.{ℤ, pos, nat_abs, ◌*ℤ◌}
 use borrow.Author.Tests.{ltb-false, eqb-false}
 use Rattle.integers.specs.Sizes.{◌within◌}

@@ -1,19 +1,16 @@
 -- `extremes::weights` meets its contract: the work slices hold the sizes of the irregular and their running sums, and it is weighed by them.
--- Assumes nothing.
 use Prim.Native.Nat.{ℕ, ◌≤◌}
 use mathlib.Core.Path.{◌≡◌, sym, ap, subst⁻¹, ◌∙◌}
 use mathlib.Core.List.{List, map}
 use native.Mathlib.Omega.{arith}
 use lib.ListN.{length}
 use lib.IntN.{ℤ, pos}
-use borrow.Author.Rules.{rules}
 use Rattle.refusals.specs.Limits.{most_months}
 use Rattle.extremes.specs.Spreads.{sizes_of}
 use Rattle.extremes.specs.Weighing.{weights_by, weights_of}
 use Rattle.extremes.specs.Promises.{Calendar, Weighable, Outcome, sizes_in, running_squares, HoldsSizes, Summed}
 use Rattle.extremes.proofs.HeldSizes.{sizes-held, length-held, held-sizes}
-use Rattle.extremes.proofs.weights.Statement.{statement}
-use Rattle.extremes.proofs.weights.Tie as tie
+use Rattle.extremes.proofs.weights.Goals as goal
 
 module _ (x : List ℤ) {work : List ℤ} (e : work ≡ map pos (sizes_of x)) where
   months-held : length work ≡ length x
@@ -41,37 +38,13 @@ module _ (x : List ℤ) {work : List ℤ} (e : work ≡ map pos (sizes_of x)) wh
     weights = w ∙ ap (weights_by start period) sizes-found;
   }
 
-fill-sizes-requires : tie.Need-fill-sizes-requires
-fill-sizes-requires c κs = search rules
+pub fill_sums-requires : goal.fill_sums-requires
+fill_sums-requires c = let f = c in let s = f in summable s.args.irregular.now f.fill_sizes.ensures s.requires
 
-fill-sums-requires : tie.Need-fill-sums-requires
-fill-sums-requires c κs = let f = c.before.before.before in let s = f.before.before.before in summable s.args.irregular.now f.fill-sizes.ensures s.requires
+pub weigh_groups-requires : goal.weigh_groups-requires
+weigh_groups-requires c = let u = c in let f = u in let s = f in
+    summed s.args.irregular.now f.fill_sizes.ensures s.requires u.fill_sums.ensures
 
-weigh-groups-requires : tie.Need-weigh-groups-requires
-weigh-groups-requires c κs = let u = c.before.before.before.before in let f = u.before.before.before.before in let s = f.before.before.before in
-    summed s.args.irregular.now f.fill-sizes.ensures s.requires u.fill-sums.ensures
-
-same_length : tie.Need-same-length
-same_length c = search rules
-
-same-length-2 : tie.Need-same-length-2
-same-length-2 c = search rules
-
-same-length-3 : tie.Need-same-length-3
-same-length-3 c = search rules
-
-returns : tie.Need-returns
-returns c = let w = c.before.before in let u = w.before.before.before.before.before in let f = u.before.before.before.before in
-    promised f.before.before.before.args.irregular.now f.fill-sizes.ensures u.fill-sums.ensures w.weigh-groups.ensures
-
-pub weights_spec : {M : Type 1} → statement M
-weights_spec =
-    tie.close
-    (tie.spec
-    fill-sizes-requires
-    fill-sums-requires
-    weigh-groups-requires
-    same_length
-    same-length-2
-    same-length-3
-    returns)
+pub returns : goal.returns
+returns c = let w = c in let u = w in let f = u in
+    promised f.args.irregular.now f.fill_sizes.ensures u.fill_sums.ensures w.weigh_groups.ensures

@@ -1,0 +1,12 @@
+-- `extremes::spreads::next_above` meets its contract: no month before the one that is read is dropped.
+use Prim.Native.Nat.{◌≤◌, ◌-◌}
+use mathlib.Core.Path.{◌≡◌}
+use Rattle.extremes.specs.Years.{months}
+use Rattle.extremes.specs.Promises.{sizes_in, dropped}
+use Rattle.extremes.proofs.spreads.next_above.Given as goal
+
+abbrev pub invariant-loop-k : goal.invariant-loop-k
+invariant-loop-k l = (l.t ≤ l.k) × (l.k ≤ l.hi) × (dropped l.limit (months l.t l.hi (sizes_in l.sizes)) ≡ dropped l.limit (months l.k l.hi (sizes_in l.sizes)))
+
+abbrev pub decreases-loop-k : goal.decreases-loop-k
+decreases-loop-k l = l.hi - l.k
