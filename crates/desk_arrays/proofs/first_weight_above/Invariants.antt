@@ -1,0 +1,12 @@
+-- `desk_arrays::first_weight_above` meets its contract: of the months before place i, where month t stands, the lowest whose weight is bad is kept.
+use Prim.Native.Nat.{◌-◌}
+use Rattle.refusals.specs.Inside.{weight_inside}
+use Rattle.desk_arrays.specs.Arrays.{stored_weight}
+use Rattle.desk_arrays.proofs.ArrayLaws.{Lowest}
+use Rattle.desk_arrays.proofs.first_weight_above.Given as goal
+
+abbrev pub invariant-loop-i : goal.invariant-loop-i
+invariant-loop-i l = Lowest weight_inside (stored_weight l.file l.from) l.p l.s l.n l.i l.t l.lowest
+
+abbrev pub decreases-loop-i : goal.decreases-loop-i
+decreases-loop-i l = l.n - l.i
