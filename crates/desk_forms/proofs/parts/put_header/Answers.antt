@@ -1,0 +1,14 @@
+-- `desk_forms::parts::put_header` meets its contract: the count, then the two bytes after it.
+use Prim.Native.Nat.{◌%◌}
+use mathlib.Core.Path.{◌≡◌}
+use native.Mathlib.Omega.{arith}
+use Rattle.little_endian.specs.Bytes.{bytes_of}
+use Rattle.desk_forms.specs.Header.{header}
+use Rattle.desk_forms.proofs.parts.put_header.Goals as goal
+
+pub returns : goal.returns
+unfolding header bytes_of
+returns c =
+    let s = c in
+    let small : s.args.start % 256 ≡ s.args.start = omega arith in
+    rw (c.put_number.ensures, small)
