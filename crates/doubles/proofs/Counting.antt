@@ -131,6 +131,8 @@ same_test a b c d f g = by (eqb c d) refl
 eq_value : (y : Float) (u : Bool) (q : ℕ) → HasValue y u q 1 → (s : Bool) (m : ℕ) (e : ℤ)
     → eq y (fin s m e) ≡ (eqb (q * down e) (m * up e) && (beq u s || eqb q 0))
 unfolding eq
+eq_value nan u q v s m e = elim v [ ]
+eq_value (inf _) u q v s m e = elim v [ ]
 eq_value (fin t a b) u q v s m e =
     let A : a * up b ≡ q * down b = sym (mul-one (a * up b)) ∙ v.1 in
     let swap : q * down b * down e ≡ q * down e * down b = mul_right_comm q (down b) (down e) in

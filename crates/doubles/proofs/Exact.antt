@@ -44,6 +44,8 @@ no_fraction n d a p h = let e : n ≡ a * d = sym (mul-one n) ∙ h in rw e (mul
 
 pub is_number : (x : Float) (s : Bool) (a : ℕ) → HasValue x s a 1 → IsNumber x (signed s a)
 unfolding is_whole number_in
+is_number nan s a v = elim v [ ]
+is_number (inf _) s a v = elim v [ ]
 is_number (fin t m e) s a v =
     let h = no_fraction (m * up e) (down e) a (down_pos e) v.1 in
     record { whole = eq-eqb (m * up e % down e) 0 h.0; number = rw (v.0, h.1) }
@@ -91,6 +93,10 @@ sum-scaled f s a t b c p =
 
 add-whole : (f : Format) (x y : Float) (s t : Bool) (a b : ℕ) → HasValue x s a 1 → HasValue y t b 1 → add f x y ≡ sum f s a t b 1
 unfolding add
+add-whole f nan y s t a b v w = elim v [ ]
+add-whole f (inf _) y s t a b v w = elim v [ ]
+add-whole f (fin s' m e) nan s t a b v w = elim w [ ]
+add-whole f (fin s' m e) (inf _) s t a b v w = elim w [ ]
 add-whole f (fin s' m e) (fin t' n d) s t a b v w =
     let A : m * up e * down d ≡ a * (down e * down d) = ap (λ (k : ℕ). k * down d) (sym (mul-one (m * up e)) ∙ v.1) ∙ mul_assoc a (down e) (down d) in
     let B : n * up d * down e ≡ b * (down e * down d) = ap (λ (k : ℕ). k * down e) (sym (mul-one (n * up d)) ∙ w.1) ∙ mul_assoc b (down d) (down e) ∙ ap (λ (k : ℕ). b * k) (mul_comm (down d) (down e)) in
