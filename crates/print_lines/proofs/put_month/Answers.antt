@@ -1,6 +1,5 @@
 -- `print_lines::put_month` meets its contract: t, the figure, the four entries and the weight one after the other.
 use native.Mathlib.Omega.{arith}
-use borrow.Author.Rules.{sfits_of}
 use Rattle.decimals.proofs.DecimalLaws.{at-most-twenty}
 use Rattle.print_lines.proofs.LineLaws.{number_kept, line-of-month}
 use Rattle.print_lines.proofs.put_month.Goals as goal
@@ -13,7 +12,7 @@ returns c =
     line-of-month
     c.args.month
     c.put_digits-figure.ensures
-    (number_kept (sfits_of c.struct_told-1.given.1.0.1) c.put_spaced_signed-entries.ensures)
+    (number_kept (record { sfits = omega arith }) c.put_spaced_signed-entries.ensures)
     c.put_entries-weight.ensures
     c.put_spaced-end.ensures
     c.put_byte.ensures
