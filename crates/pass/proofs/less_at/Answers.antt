@@ -1,0 +1,6 @@
+-- `pass::less_at` meets its contract: both numbers are small enough for their difference to fit.
+use Rattle.integers.proofs.Signed64.{i-, i_kept, i_in}
+use Rattle.pass.proofs.less_at.Goals as goal
+
+pub returns : goal.returns
+returns c = let s = c in (i_kept (i- (i_in s.requires.2 tt) (i_in s.requires.3 tt)) tt).eq
