@@ -1,7 +1,7 @@
 /* Moves a desk file from one form to the other. With a first year IN is a plain file, and OUT the same by calendar month; without one IN is by
    calendar month and OUT plain, and the first year is printed. In the repository's folder:
 
-       rt staticlib vepsjalm
+       tools/build
        cc -std=c11 -Wall -Wextra -Wpedantic -Werror -O2 -I include -o target/columns examples/columns.c target/staticlib/libvepsjalm.a
        target/columns examples/production.desk target/production-moved.columns 1985
        target/columns target/production-moved.columns target/production-again.desk

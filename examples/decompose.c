@@ -2,7 +2,7 @@
    D13 in units, and the weights B17 and C17. The file's own weights are checked and not used. A refusal goes to standard error with its
    number, place and text, and its number is the exit status; 100 if reading or printing fails. In the repository's folder:
 
-       rt staticlib vepsjalm
+       tools/build
        cc -std=c99 -Wall -Wextra -Wpedantic -Werror -O2 -I include -o target/decompose-c examples/decompose.c target/staticlib/libvepsjalm.a
        target/decompose-c examples/production.desk
 */

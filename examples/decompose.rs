@@ -3,7 +3,7 @@
 //! number, place and text, and its number is the exit status; 100 if reading or printing fails (where standard output is closed, Rust prints
 //! to the null device). In the repository's folder:
 //!
-//!     rt staticlib vepsjalm
+//!     tools/build
 //!     rustc --edition 2021 -O -D warnings -L target/staticlib -o target/decompose-rust examples/decompose.rs
 //!     target/decompose-rust examples/production.desk
 

@@ -1,7 +1,7 @@
 /* Reads a desk file and writes another: the same series with its final weights, the C17 of decomposing it. The weights of the file that is
    read are checked and not used. In the repository's folder, IN.desk first and OUT.desk second:
 
-       rt staticlib vepsjalm
+       tools/build
        cc -std=c11 -Wall -Wextra -Wpedantic -Werror -O2 -I include -o target/final-weights examples/final-weights.c target/staticlib/libvepsjalm.a
        target/final-weights examples/production.desk target/production-final.desk
 

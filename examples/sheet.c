@@ -3,7 +3,7 @@
    figure), in units, of its last twelve months. A refusal goes to standard error with its number, place and text, and its number is the exit
    status; 100 for wrong use, or if reading or printing fails. In the repository's folder:
 
-       rt staticlib vepsjalm
+       tools/build
        cc -std=c99 -Wall -Wextra -Wpedantic -Werror -O2 -I include -o target/sheet examples/sheet.c target/staticlib/libvepsjalm.a
        target/sheet < examples/revised.sheet
 */

@@ -1,5 +1,5 @@
 /* Vepsjalm: seasonal adjustment of a monthly series by the additive X-11 method, its desk file, in two forms, and the members' sheet. For C99
-   or later, and for C++. `rt staticlib vepsjalm` in the repository's folder writes the library, target/staticlib/libvepsjalm.a, for x86-64
+   or later, and for C++. `tools/build` in the repository's folder writes the library, target/staticlib/libvepsjalm.a, for x86-64
    Linux; beside it only the C library is needed. examples/decompose.c is a whole caller of reading and decomposing, examples/final-weights.c
    of writing too, examples/columns.c of moving a file from one form to the other, examples/sheet.c of reading a members' sheet.
 

@@ -1,4 +1,4 @@
-//! The tests link the proved library, which `rt staticlib vepsjalm` writes to target/staticlib at the repository's root.
+//! The tests link the proved library, which `tools/build` writes to target/staticlib at the repository's root.
 use std::path::Path;
 
 fn main() {

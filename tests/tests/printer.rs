@@ -18,7 +18,7 @@ const LONGEST: usize = 3_604;
 fn program() -> PathBuf {
     let root = Path::new(env!("CARGO_MANIFEST_DIR")).parent().expect("the repository's folder");
     let program = root.join("target/bin/printer");
-    assert!(program.exists(), "`rt check printer` builds it");
+    assert!(program.exists(), "`tools/build` builds it");
     program
 }
 

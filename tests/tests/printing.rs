@@ -61,7 +61,7 @@ fn refusals_are_one_line() {
     assert_eq!(printed(&whole[..435]), "refused 9 0\n");
 }
 
-/// The text stored for the stored cases, with which `rt check cases` compares what the built program prints, is this program's.
+/// The text stored for the stored cases, with which `rt ci` compares what the built program prints, is this program's.
 #[test]
 fn stored_cases_have_this_text() {
     let [names, stored] = ["args", "stdout"].map(|file| String::from_utf8(stored::bytes(file)).expect("text"));
