@@ -1,5 +1,5 @@
 -- What each call of pass B leaves is the next table of the rules, and is what the next call asks: SI1 is weighed and replaced, then SI2.
-use mathlib.Core.Path.{◌≡◌, refl, sym, ap, ap₂, subst, ◌∙◌}
+use mathlib.Core.Path.{◌≡◌, sym, ap, ap₂, subst, ◌∙◌}
 use mathlib.Core.List.{List}
 use Prim.Native.Nat.{ℕ, ◌*◌, ◌-◌, ◌≤◌}
 use native.Mathlib.Omega.{arith}
@@ -24,7 +24,7 @@ use Rattle.replacing.specs.Replaced.{replaced_by}
 use Rattle.steps.specs.Choices.{MovingAverage, average2x12, average_seasonal, none, by_weights, plain_monthly}
 use Rattle.steps.specs.Places.{at_month}
 use Rattle.steps.specs.ByMonth.{Stands}
-use Rattle.steps.specs.Steps.{level, T1, SI1, R1, M1, inner_s1, S1, A1, T2, SI2}
+use Rattle.steps.specs.Steps.{SI1, T2, SI2}
 use Rattle.steps.proofs.Sound.{Norm, Sound, monthly-sound, plain_sound}
 use Rattle.steps.proofs.Shared.{same_si1, same_t2, same_si2}
 use Rattle.steps.proofs.Largest as sizes
