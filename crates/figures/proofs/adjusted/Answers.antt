@@ -1,0 +1,22 @@
+use mathlib.Core.Path.{◌∙◌}
+use native.Mathlib.Omega.{arith}
+use Rattle.integers.proofs.Signed64.{kept}
+use Rattle.refusals.specs.Limits.{unit}
+use Rattle.integers.proofs.FillingLaws.{filled_none, filled_more, filled-tab}
+use Rattle.figures.proofs.Loops.{less_is}
+use Rattle.figures.proofs.adjusted.Goals as goal
+
+pub loop-t-init : goal.loop-t-init
+loop-t-init c = (omega arith, omega arith, filled_none)
+
+pub adjusted_at-requires : goal.adjusted_at-requires
+adjusted_at-requires c = (c.requires.0, omega arith)
+
+pub loop-t-preserved : goal.loop-t-preserved
+loop-t-preserved c = let l = c in (omega arith, l.loop-t.invariant.1, filled_more l.loop-t.invariant.2 (omega arith) (omega arith) (kept c.adjusted_at.type_inv c.adjusted_at.ensures))
+
+pub shape_of-out : goal.shape_of-out
+shape_of-out c = c.loop-t.invariant.2.long
+
+pub returns : goal.returns
+returns c = let l = c in filled-tab l.loop-t.invariant.2 (omega arith) l.requires.1 ∙ less_is unit l.args.figures.now l.args.s.now
