@@ -53,7 +53,10 @@ fn behind_the_name(what: &str) -> Vec<i128> {
 
 /// The proved list without its comments.
 fn proved() -> String {
-    let source = document("crates/pencil/specs/Pencil.antt").replace('_', "");
+    let source: Vec<char> = document("crates/pencil/specs/Pencil.antt").chars().collect();
+    let digit = |i: usize| source[i].is_ascii_digit();
+    // A long number has a mark between its thousands.
+    let source: String = (0..source.len()).filter(|&i| source[i] != '_' || !digit(i - 1) || !digit(i + 1)).map(|i| source[i]).collect();
     source.lines().filter(|line| !line.trim_start().starts_with("--")).collect::<Vec<_>>().join("\n")
 }
 
@@ -114,7 +117,7 @@ fn check_henderson(series: Series, what: &str, gives: &str) {
     if let [enough, place, exactly, early, late] = said[2..] {
         assert!(exactly == enough && early == enough && late + enough == series.months as i128 - 1, "{what}");
         months = [place, early, late].map(|month| month as usize).to_vec();
-        months.iter().for_each(|month| assert_proved(&format!("(hendersonAround {month} ")));
+        months.iter().for_each(|month| assert_proved(&format!("(henderson_around {month} ")));
     } else {
         assert_eq!(said.len(), 2, "{what}");
     }
@@ -272,7 +275,7 @@ fn check_terms(what: &str, gives: &str) {
     let said = numbers(what);
     let worked: Vec<i128> = said.chunks(2).map(|pair| Noise { i: pair[0] as u64, c: pair[1] as u64 }.terms() as i128).collect();
     assert_eq!(numbers(gives), worked, "{what}");
-    assert_eq!(said, numbers(between(&proved(), "(whole (countFor ", "[]")), "{what}");
+    assert_eq!(said, numbers(between(&proved(), "(whole (count_for ", "[]")), "{what}");
 }
 
 fn check_answers(what: &str, gives: &str) {
@@ -282,7 +285,7 @@ fn check_answers(what: &str, gives: &str) {
     let sums = pairs.chunks(2).map(|pair| [pair[0], pair[1]]).chain(with_s);
     let answer = |[i, s]: [i128; 2]| Question { months: 72, i: i as u64, s: s as u64 }.answer().map_or("none".to_string(), shown_name);
     assert_eq!(gives.split([',', ';']).map(str::trim).collect::<Vec<_>>(), sums.map(answer).collect::<Vec<_>>(), "{what}");
-    assert_eq!(said, numbers(between(&proved(), "(whole (answerTo ", "[]")), "{what}");
+    assert_eq!(said, numbers(between(&proved(), "(whole (answer_to ", "[]")), "{what}");
 }
 
 /// A table of whole years that rises by so much from year to year.
@@ -363,7 +366,7 @@ fn lines() -> Vec<[String; 2]> {
 fn every_line_is_worked() {
     let text = part("11");
     let &[months, place] = &numbers(between(&text, "A series has ", " where nothing"))[..] else { panic!("months and a place") };
-    assert_proved(&format!("one c v = oneOf {months} c v"));
+    assert_proved(&format!("one c v = one_of {months} c v"));
     let series = Series { months: months as usize, place: place as usize };
     let lines = lines();
     assert!(lines.len() > 30);
@@ -376,7 +379,7 @@ fn every_line_is_worked() {
 fn filters_by_yearly_changes() {
     let text = part("11");
     let rise = numbers(between(&text, "C10 rising by ", " from"))[0];
-    assert_proved(&format!("(λ . {rise}) changes"));
+    assert_proved(&format!("(λ _. {rise}) changes"));
     let mut all = Vec::new();
     for [what, gives] in lines().iter().filter(|[what, _]| what.contains("C13")) {
         let (_, lists) = what.rsplit_once("by ").expect("changes");
@@ -385,7 +388,7 @@ fn filters_by_yearly_changes() {
         all.extend(lists);
     }
     let proved = proved();
-    let stated: Vec<Vec<i128>> = proved.split("chosenFor (").skip(1).map(|list| numbers(list.split("[]").next().expect("a list"))).collect();
+    let stated: Vec<Vec<i128>> = proved.split("chosen_for (").skip(1).map(|list| numbers(list.split("[]").next().expect("a list"))).collect();
     assert_eq!(all, stated);
 }
 

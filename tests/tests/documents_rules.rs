@@ -132,8 +132,8 @@ fn distances_in_a_pass() {
     assert!(part("6.3").contains(&format!("{passes} {pass_b}")), "{passes} {pass_b}");
     let contract = document("crates/tables/specs/Nearness.antt");
     for (choices, near) in [
-        ("(choicesB start (B1 start figures))", [near_t2_in_b, near_s2_in_b]),
-        ("choicesC", [near_t2, near_s2]),
+        ("(choices_b start (B1 start figures))", [near_t2_in_b, near_s2_in_b]),
+        ("choices_c", [near_t2, near_s2]),
         ("c", [near_t2, near_s2]),
     ] {
         let stated = format!("Near {choices} {} {} (", near[0], near[1]);
@@ -150,7 +150,7 @@ fn distances_of_the_results() {
     assert!(part("6.4").contains(&words), "{words}");
     let contract = document("crates/tables/specs/Nearness.antt");
     for (table, near) in RESULT_LIMITS {
-        let stated = format!("AtMostApart {near} (overE f) ({} ‼ t)", table.to_lowercase());
+        let stated = format!("AtMostApart {near} (over_e f) ({} ‼ t)", table.to_lowercase());
         assert!(contract.contains(&stated), "{stated}");
     }
     let readme = document("README.md");
