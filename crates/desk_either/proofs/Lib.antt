@@ -1,2 +1,0 @@
--- What the checks found, for reading, writing and moving.
-pub mod Found
