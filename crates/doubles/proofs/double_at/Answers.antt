@@ -4,7 +4,6 @@ use lib.Ieee.{binary64, of_bits}
 use Rattle.doubles.specs.Doubles.{double_at}
 use Rattle.doubles.proofs.double_at.Goals as goal
 
--- src/lib.rt:45:1
 pub returns : goal.returns
 unfolding double_at
 returns c = c.double_of_bits.ensures ∙ ap (of_bits binary64) c.bits_at.ensures.value

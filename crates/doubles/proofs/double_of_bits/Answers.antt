@@ -17,7 +17,6 @@ no_number n h = only_nan (of_bits binary64 n) (sym (nan_bits_is binary64 n) ∙ 
 pub float_from_bits-result : goal.float_from_bits-result
 float_from_bits-result c = rw (nan_bits_above binary64 c.args.bits, le-ltb 9218868437227405312 (c.args.bits % 9223372036854775808) c.if-bits-gt-INFINITE.false) tt
 
--- src/lib.rt:34:1
 pub returns-then-bits-gt-INFINITE : goal.returns-then-bits-gt-INFINITE
 unfolding div of_bits
 returns-then-bits-gt-INFINITE c = sym (no_number c.args.bits (nan_bits_above binary64 c.args.bits ∙ lt-ltb 9218868437227405312 (c.args.bits % 9223372036854775808) c.if-bits-gt-INFINITE.true))

@@ -2,7 +2,6 @@
 use Rattle.doubles.specs.Doubles.{unused_at}
 use Rattle.doubles.proofs.unused_at.Goals as goal
 
--- src/lib.rt:53:1
 pub returns : goal.returns
 unfolding unused_at
 returns c = rw c.bits_at.ensures.value
