@@ -79,7 +79,7 @@ fn month_at(
     requires { SameLength (record { figures = figures.now; d10 = d10.now; d11 = d11.now; d12 = d12.now; d13 = d13.now; c17 = c17.now })
         × (t < length figures.now) }
     ensures { result ≡ month_at (record {
-      figures = figures.entry.now;
+      figures = figures.now;
       d10 = d10.now;
       d11 = d11.now;
       d12 = d12.now;
@@ -111,9 +111,9 @@ fn put_months(
 ) -> usize
     requires { (at + line_room * length figures.now ≤ length out.old)
         × SameLength (record { figures = figures.now; d10 = d10.now; d11 = d11.now; d12 = d12.now; d13 = d13.now; c17 = c17.now }) }
-    ensures { Stored (line_room * length figures.entry.now) out.old at
+    ensures { Stored (line_room * length figures.now) out.old at
         (month_lines (record {
-          figures = figures.entry.now;
+          figures = figures.now;
           d10 = d10.now;
           d11 = d11.now;
           d12 = d12.now;
@@ -170,7 +170,7 @@ pub fn put_tables(
         × SameLength (record { figures = figures.now; d10 = d10.now; d11 = d11.now; d12 = d12.now; d13 = d13.now; c17 = c17.now }) }
     ensures { Stored text_room out.old 0
         (tables_text (record {
-          figures = figures.entry.now;
+          figures = figures.now;
           d10 = d10.now;
           d11 = d11.now;
           d12 = d12.now;
