@@ -1,2 +1,0 @@
--- An answer as numbers.
-pub mod Answers
