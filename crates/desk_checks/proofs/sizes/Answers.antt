@@ -11,6 +11,7 @@ use Rattle.desk_forms.specs.Header.{count_in}
 use Rattle.desk_forms.proofs.FileLaws.{start_byte, period_byte}
 use Rattle.desk_checks.proofs.sizes.Goals as goal
 
+-- the count that was read
 counted : (file : List ℕ) {n : ℕ} → n ≡ number_at file 0 2 → count_in file ≡ n
 unfolding count_in
 counted file e = sym e

@@ -11,14 +11,12 @@ use Rattle.desk_forms.proofs.FileLaws.{put_year}
 use Rattle.desk_forms.proofs.parts.put_front.Goals as goal
 
 pub put_header-requires : goal.put_header-requires
-put_header-requires c = let s = c in (omega (arith, front_least s.args.form, s.requires.0), s.requires.1)
+put_header-requires c = (omega (arith, front_least c.args.form, c.requires.0), c.requires.1)
 
 pub put_number-requires : goal.put_number-requires
 put_number-requires c =
-    let h = c in
-    let s = h in
-    let six : front_of s.args.form ≡ 6 = ap front_of c.in-Columns.is in
-    omega (arith, six, s.requires.0, h.put_header.auto.out)
+    let six : front_of c.args.form ≡ 6 = ap front_of c.in-Columns.is in
+    omega (arith, six, c.requires.0, c.put_header.auto.out)
 
 -- the bytes of the form that was found
 by_form : (out : List ℕ) (n start year : ℕ) {form found : Form} → form ≡ found → ◌≡◌ (sets out 0 (front_bytes found n start year)) (sets out 0 (front_bytes form n start year))
