@@ -1,10 +1,9 @@
 // Prints each desk file that an argument names, after a line with its name.
 #![tactic(auto)]
 
-use std::env;
 use std::fs::File;
-use std::io;
 use std::io::Print;
+use std::{env, io};
 
 fn one(rt: &HostRuntime, path: &str) {
     match File::open(rt, path) {
