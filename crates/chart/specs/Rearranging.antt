@@ -1,5 +1,5 @@
 -- METHOD 7.6 and 7.9: the places are those of month order, and it loses nothing, for every number of months in a year, start month and count. Shown in
--- proofs/Rearranging.antt: places, in-order, nothing_lost.
+-- proofs/Rearranging.antt: places, in_order, nothing_lost.
 use Rattle.std.specs.Prelude.{ℕ, ◌<◌, ◌≡◌, List, length, get_or}
 use Rattle.chart.specs.Chart.{Starts, column_of, place, month_order, order_of_t}
 

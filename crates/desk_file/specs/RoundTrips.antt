@@ -32,11 +32,11 @@ OneFile = (file file' : List ℕ) (figuresRoom weightsRoom figuresRoom' weightsR
     → series_in file ≡ series_in file'
     → file ≡ file'
 
--- and one series with weights for each byte string: two that can be stored and give the same bytes are the same (same-bytes)
+-- and one series with weights for each byte string: two that can be stored and give the same bytes are the same (same_bytes)
 abbrev pub SameBytes : Type 0
 SameBytes = (s s' : SeriesWithWeights) → Storable s → Storable s' → file_bytes s ≡ file_bytes s' → s ≡ s'
 
--- what `write` wrote, the first k bytes of its output, `read` reads again into slices with room for it, unchanged (read-again)
+-- what `write` wrote, the first k bytes of its output, `read` reads again into slices with room for it, unchanged (read_again)
 abbrev pub ReadsBack : Type 0
 ReadsBack = (s : SeriesWithWeights) (out₀ out : List ℕ) (q : Writing) (k : ℕ) (figures₀ figures : List ℤ) (weights₀ weights : List ℕ) (r : Reading)
     → WriteDone s out₀ q out
@@ -46,7 +46,7 @@ ReadsBack = (s : SeriesWithWeights) (out₀ out : List ℕ) (q : Writing) (k : �
     → ReadDone (take k out) figures₀ weights₀ r figures weights
     → ReadAgain s figures₀ weights₀ r figures weights
 
--- what `read` accepted, `write` writes again into an output with room for it, byte for byte (write-again)
+-- what `read` accepted, `write` writes again into an output with room for it, byte for byte (write_again)
 abbrev pub WritesBack : Type 0
 WritesBack = (file : List ℕ) (figures₀ figures : List ℤ) (weights₀ weights : List ℕ) (q : Reading) (n start : ℕ) (out₀ out : List ℕ) (r : Writing)
     → AreBytes file

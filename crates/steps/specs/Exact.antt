@@ -36,7 +36,7 @@ module _ (c : Choices) (x : List ℤ) where
   unfoldable pub exact_si1 : List ℤ
   exact_si1 = minus (times c.yearly.over (inner c.half_year x)) exact_t1
 
-  -- R1 (METHOD 3.3), over overR1: 24 * 748,440, and `common` times as much where SI1 is replaced
+  -- R1 (METHOD 3.3), over over_r1: 24 * 748,440, and `common` times as much where SI1 is replaced
   unfoldable pub exact_r1 : List ℤ
   exact_r1 = exact c.seasonal1.table c.seasonal1.over (exact_replaced c.half_year c.replacing1 exact_si1)
 
