@@ -15,7 +15,5 @@ first_in-requires c =
 
 pub returns : goal.returns
 returns c =
-    let k = c in
-    let s = k in
-    let a = s.args in
-    next-column a.p a.s s.requires.0.starts a.n a.t c.first_in.result s.requires.0.full s.requires.1 k.if-t-p.false (c.first_in.ensures.0 ∙ rw k.column_of.ensures.0)
+    let a = c.args in
+    next-column a.p a.s c.requires.0.starts a.n a.t c.first_in.result c.requires.0.full c.requires.1 c.if-t-p.false (c.first_in.ensures.0 ∙ rw c.column_of.ensures.0)

@@ -18,7 +18,7 @@ unfolding place
 is-place c = rw (c.before-2.ensures, c.column_of.ensures.0)
 
 below : (c : After-before-2) → let a = c.args in c.before-2.result + a.t / a.p < a.n
-below c = let s = c in let a = s.args in rw (is-place c) (place-below a.p a.s s.requires.0.starts a.n a.t s.requires.1)
+below c = let a = c.args in rw (is-place c) (place-below a.p a.s c.requires.0.starts a.n a.t c.requires.1)
 
 pub returns : goal.returns
 returns c = (is-place c, below c)

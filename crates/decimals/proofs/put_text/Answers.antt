@@ -11,11 +11,10 @@ loop-i-init c = (omega arith, refl, rw add-zero)
 
 pub loop-i-preserved : goal.loop-i-preserved
 loop-i-preserved c =
-    let l = c in
-    let s = l.args in (
+    let s = c.args in (
       omega arith,
-      length-set l.loop-i.out (s.at + l.loop-i.i) _ ∙ l.loop-i.invariant.1,
-      l.loop-i.invariant.2 ∙ copy_more l.loop-i.out s.text.now s.at l.loop-i.i (omega arith),
+      length-set c.loop-i.out (s.at + c.loop-i.i) _ ∙ c.loop-i.invariant.1,
+      c.loop-i.invariant.2 ∙ copy_more c.loop-i.out s.text.now s.at c.loop-i.i (omega arith),
     )
 
 pub shape_of-out : goal.shape_of-out
@@ -23,6 +22,5 @@ shape_of-out c = c.loop-i.invariant.1
 
 pub returns : goal.returns
 returns c =
-    let l = c in
-    let s = l.args in
-    stored-as (sym (l.loop-i.invariant.2 ∙ copy-none l.loop-i.out s.text.now s.at l.loop-i.i (omega arith))) (omega arith) (omega arith)
+    let s = c.args in
+    stored-as (sym (c.loop-i.invariant.2 ∙ copy-none c.loop-i.out s.text.now s.at c.loop-i.i (omega arith))) (omega arith) (omega arith)

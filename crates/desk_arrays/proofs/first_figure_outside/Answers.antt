@@ -20,8 +20,7 @@ lower-lowest-requires c = tt
 
 pub loop-i-preserved : goal.loop-i-preserved
 loop-i-preserved c =
-    let v = c in
-    lowest_more v.loop-i.invariant (omega arith) (to_z-of_z {w = w32} (sfits_of v.stored_figure.type_inv) ∙ v.stored_figure.ensures) v.figure_outside-outside.ensures c.lower-lowest.ensures c.next-t.ensures
+    lowest_more c.loop-i.invariant (omega arith) (to_z-of_z {w = w32} (sfits_of c.stored_figure.type_inv) ∙ c.stored_figure.ensures) c.figure_outside-outside.ensures c.lower-lowest.ensures c.next-t.ensures
 
 pub found-requires : goal.found-requires
 found-requires c = tt

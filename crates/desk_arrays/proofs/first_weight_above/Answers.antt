@@ -16,8 +16,7 @@ lower-lowest-requires c = tt
 
 pub loop-i-preserved : goal.loop-i-preserved
 loop-i-preserved c =
-    let v = c in
-    lowest_more v.loop-i.invariant (omega arith) v.stored_weight.ensures v.weight_above-above.ensures c.lower-lowest.ensures c.next-t.ensures
+    lowest_more c.loop-i.invariant (omega arith) c.stored_weight.ensures c.weight_above-above.ensures c.lower-lowest.ensures c.next-t.ensures
 
 pub found-requires : goal.found-requires
 found-requires c = tt

@@ -11,7 +11,7 @@ pub loop-i-init : goal.loop-i-init
 loop-i-init c = let pre = c.requires in walk_none pre.0.charted pre.1 c.first_in-t.ensures.0
 
 pub loop-i-preserved : goal.loop-i-preserved
-loop-i-preserved c = let v = c in walk_more v.loop-i.invariant (omega arith) (to_z-of_z {w = w32} (sfits_of v.stored_figure.type_inv) ∙ v.stored_figure.ensures) c.next-t.ensures
+loop-i-preserved c = walk_more c.loop-i.invariant (omega arith) (to_z-of_z {w = w32} (sfits_of c.stored_figure.type_inv) ∙ c.stored_figure.ensures) c.next-t.ensures
 
 pub shape_of-figures : goal.shape_of-figures
 shape_of-figures c = c.loop-i.invariant.long

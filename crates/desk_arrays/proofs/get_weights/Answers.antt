@@ -7,7 +7,7 @@ pub loop-i-init : goal.loop-i-init
 loop-i-init c = let pre = c.requires in walk_none pre.0.charted pre.1 c.first_in-t.ensures.0
 
 pub loop-i-preserved : goal.loop-i-preserved
-loop-i-preserved c = let v = c in walk_more v.loop-i.invariant (omega arith) v.stored_weight.ensures c.next-t.ensures
+loop-i-preserved c = walk_more c.loop-i.invariant (omega arith) c.stored_weight.ensures c.next-t.ensures
 
 pub shape_of-weights : goal.shape_of-weights
 shape_of-weights c = c.loop-i.invariant.long

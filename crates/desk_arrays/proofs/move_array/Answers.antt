@@ -16,14 +16,12 @@ After-place = lts.After-place tie.the-claims reads.Pre reads.Post goal.the-invar
 -- the number that is read lies in the file
 inside : (c : After-place) → let a = c.args in a.from + a.width * c.place.result + a.width ≤ length a.file.now
 inside c =
-    let b = c in
-    part_fits b.args.from b.args.width b.args.n (length b.args.file.now) c.place.result b.requires.1.room c.place.ensures.1
+    part_fits c.args.from c.args.width c.args.n (length c.args.file.now) c.place.result c.requires.1.room c.place.ensures.1
 
 pub loop-i-init : goal.loop-i-init
 loop-i-init c =
-    let b = c in
-    let a = b.args in
-    stored_none b.requires.2 (length-order_of_t 0 a.p a.s b.requires.1.charted.starts _ ∙ length-numbers_at a.width a.file.now a.from a.n) c.first_in-t.ensures.0
+    let a = c.args in
+    stored_none c.requires.2 (length-order_of_t 0 a.p a.s c.requires.1.charted.starts _ ∙ length-numbers_at a.width a.file.now a.from a.n) c.first_in-t.ensures.0
 
 pub number_at-requires : goal.number_at-requires
 number_at-requires c = (c.requires.0, inside c.before.before)
@@ -33,17 +31,12 @@ put_number-requires c = stored_room c.loop-i.invariant (omega arith)
 
 pub loop-i-preserved : goal.loop-i-preserved
 loop-i-preserved c =
-    let put = c in
-    let read = put in
-    let at = read in
-    let l = at in
-    let b = l in
-    let a = b.args in
+    let a = c.args in
     let value =
-    read.number_at.ensures.value
-    ∙ ap (λ (k : ℕ). number_at a.file.now (a.from + a.width * k) a.width) at.place.ensures.0
-    ∙ sym (number_of a.width a.file.now a.from a.p a.s a.n l.loop-i.t b.requires.1.charted.starts l.loop-i.invariant.reached.inside) in
-    stored_more l.loop-i.invariant (omega arith) value put.put_number.ensures c.next-t.ensures
+    c.number_at.ensures.value
+    ∙ ap (λ (k : ℕ). number_at a.file.now (a.from + a.width * k) a.width) c.place.ensures.0
+    ∙ sym (number_of a.width a.file.now a.from a.p a.s a.n c.loop-i.t c.requires.1.charted.starts c.loop-i.invariant.reached.inside) in
+    stored_more c.loop-i.invariant (omega arith) value c.put_number.ensures c.next-t.ensures
 
 pub shape_of-out : goal.shape_of-out
 shape_of-out c = c.loop-i.invariant.long

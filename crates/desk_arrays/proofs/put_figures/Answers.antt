@@ -19,10 +19,8 @@ put_number-requires c = stored_room c.loop-i.invariant (omega arith)
 
 pub loop-i-preserved : goal.loop-i-preserved
 loop-i-preserved c =
-    let put = c in
-    let l = put in
-    let value = put.word.ensures ∙ ap word (to_z-of_z {w = w32} (sfits_of put.word-arg-1.given)) in
-    stored_more l.loop-i.invariant (omega arith) value put.put_number.ensures c.next-t.ensures
+    let value = c.word.ensures ∙ ap word (to_z-of_z {w = w32} (sfits_of c.word-arg-1.given)) in
+    stored_more c.loop-i.invariant (omega arith) value c.put_number.ensures c.next-t.ensures
 
 pub shape_of-out : goal.shape_of-out
 shape_of-out c = c.loop-i.invariant.long

@@ -12,9 +12,7 @@ put_number-requires c = stored_room c.loop-i.invariant (omega arith)
 
 pub loop-i-preserved : goal.loop-i-preserved
 loop-i-preserved c =
-    let put = c in
-    let l = put in
-    stored_more l.loop-i.invariant (omega arith) refl put.put_number.ensures c.next-t.ensures
+    stored_more c.loop-i.invariant (omega arith) refl c.put_number.ensures c.next-t.ensures
 
 pub shape_of-out : goal.shape_of-out
 shape_of-out c = c.loop-i.invariant.long

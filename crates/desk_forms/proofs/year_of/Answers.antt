@@ -8,13 +8,10 @@ use Rattle.desk_forms.proofs.year_of.Goals as goal
 
 pub number_at-requires : goal.number_at-requires
 number_at-requires c =
-    let s = c in
-    let six : front_of s.args.form ≡ 6 = ap front_of c.in-Columns.is in
-    (omega arith, omega (arith, six, s.requires))
+    let six : front_of c.args.form ≡ 6 = ap front_of c.in-Columns.is in
+    (omega arith, omega (arith, six, c.requires))
 
 pub returns-in-Columns : goal.returns-in-Columns
 unfolding first_year_in
 returns-in-Columns c =
-    let e = c in
-    let s = e in
-    c.number_at.ensures.value ∙ ap (λ (f : Form). year_of f s.args.given s.args.file.now) (sym e.in-Columns.is)
+    c.number_at.ensures.value ∙ ap (λ (f : Form). year_of f c.args.given c.args.file.now) (sym c.in-Columns.is)

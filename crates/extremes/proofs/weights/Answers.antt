@@ -39,12 +39,10 @@ module _ (x : List ℤ) {work : List ℤ} (e : work ≡ map pos (sizes_of x)) wh
   }
 
 pub fill_sums-requires : goal.fill_sums-requires
-fill_sums-requires c = let f = c in let s = f in summable s.args.irregular.now f.fill_sizes.ensures s.requires
+fill_sums-requires c = summable c.args.irregular.now c.fill_sizes.ensures c.requires
 
 pub weigh_groups-requires : goal.weigh_groups-requires
-weigh_groups-requires c = let u = c in let f = u in let s = f in
-    summed s.args.irregular.now f.fill_sizes.ensures s.requires u.fill_sums.ensures
+weigh_groups-requires c = summed c.args.irregular.now c.fill_sizes.ensures c.requires c.fill_sums.ensures
 
 pub returns : goal.returns
-returns c = let w = c in let u = w in let f = u in
-    promised f.args.irregular.now f.fill_sizes.ensures u.fill_sums.ensures w.weigh_groups.ensures
+returns c = promised c.args.irregular.now c.fill_sizes.ensures c.fill_sums.ensures c.weigh_groups.ensures

@@ -13,10 +13,10 @@ pub adjusted_at-requires : goal.adjusted_at-requires
 adjusted_at-requires c = (c.requires.0, omega arith)
 
 pub loop-t-preserved : goal.loop-t-preserved
-loop-t-preserved c = let l = c in (omega arith, l.loop-t.invariant.1, filled_more l.loop-t.invariant.2 (omega arith) (omega arith) (kept c.adjusted_at.type_inv c.adjusted_at.ensures))
+loop-t-preserved c = (omega arith, c.loop-t.invariant.1, filled_more c.loop-t.invariant.2 (omega arith) (omega arith) (kept c.adjusted_at.type_inv c.adjusted_at.ensures))
 
 pub shape_of-out : goal.shape_of-out
 shape_of-out c = c.loop-t.invariant.2.long
 
 pub returns : goal.returns
-returns c = let l = c in filled-tab l.loop-t.invariant.2 (omega arith) l.requires.1 ∙ less_is unit l.args.figures.now l.args.s.now
+returns c = filled-tab c.loop-t.invariant.2 (omega arith) c.requires.1 ∙ less_is unit c.args.figures.now c.args.s.now

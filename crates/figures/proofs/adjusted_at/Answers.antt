@@ -4,5 +4,4 @@ use Rattle.figures.proofs.Loops.{grains_within}
 use Rattle.figures.proofs.adjusted_at.Goals as goal
 
 pub returns : goal.returns
-returns c = let g = c in let s = g in
-    (i_kept (i- (i_call g.grains_at.type_inv g.grains_at.ensures (grains_within s.requires.0.figures s.args.t)) (i_in (s.requires.0.small.at s.args.t) tt)) tt).eq
+returns c = (i_kept (i- (i_call c.grains_at.type_inv c.grains_at.ensures (grains_within c.requires.0.figures c.args.t)) (i_in (c.requires.0.small.at c.args.t) tt)) tt).eq

@@ -13,11 +13,10 @@ pub corrected_at-requires : goal.corrected_at-requires
 corrected_at-requires c = (c.requires.0, omega arith)
 
 pub loop-t-preserved : goal.loop-t-preserved
-loop-t-preserved c = let l = c in (omega arith, l.loop-t.invariant.1, filled_more l.loop-t.invariant.2 (omega arith) (omega arith) (kept c.corrected_at.type_inv c.corrected_at.ensures))
+loop-t-preserved c = (omega arith, c.loop-t.invariant.1, filled_more c.loop-t.invariant.2 (omega arith) (omega arith) (kept c.corrected_at.type_inv c.corrected_at.ensures))
 
 pub shape_of-out : goal.shape_of-out
 shape_of-out c = c.loop-t.invariant.2.long
 
 pub returns : goal.returns
-returns c = let l = c in let s = l in
-    filled-tab l.loop-t.invariant.2 (omega arith) s.requires.1 ∙ corrected_is unit s.args.figures.now s.args.irregular.now s.args.weights.now s.requires.0.irregular_long
+returns c = filled-tab c.loop-t.invariant.2 (omega arith) c.requires.1 ∙ corrected_is unit c.args.figures.now c.args.irregular.now c.args.weights.now c.requires.0.irregular_long

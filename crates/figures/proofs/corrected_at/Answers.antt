@@ -11,13 +11,11 @@ use Rattle.figures.proofs.Loops.{grains_within}
 use Rattle.figures.proofs.corrected_at.Goals as goal
 
 pub correction-requires : goal.correction-requires
-correction-requires c = let s = c in (i_within (i_in (s.requires.0.small.at s.args.t) tt), s.requires.0.light s.args.t s.requires.1)
+correction-requires c = (i_within (i_in (c.requires.0.small.at c.args.t) tt), c.requires.0.light c.args.t c.requires.1)
 
 pub returns : goal.returns
-returns c = let g = c in let s = g in
-    (i_kept (i- (i_call g.grains_at.type_inv g.grains_at.ensures (grains_within s.requires.0.figures s.args.t)) (i_call c.correction.type_inv c.correction.ensures (correction_within _ _ (i_within (i_in (s.requires.0.small.at s.args.t) tt))))) tt).eq
-    ∙ ap (λ (z : ℤ). pos unit *ℤ (s.args.figures.now ‼ s.args.t) -ℤ correction_of z (get_or s.args.weights.now s.args.t 0)) (i_in (s.requires.0.small.at s.args.t) tt).eq
+returns c = (i_kept (i- (i_call c.grains_at.type_inv c.grains_at.ensures (grains_within c.requires.0.figures c.args.t)) (i_call c.correction.type_inv c.correction.ensures (correction_within _ _ (i_within (i_in (c.requires.0.small.at c.args.t) tt))))) tt).eq
+    ∙ ap (λ (z : ℤ). pos unit *ℤ (c.args.figures.now ‼ c.args.t) -ℤ correction_of z (get_or c.args.weights.now c.args.t 0)) (i_in (c.requires.0.small.at c.args.t) tt).eq
 
 pub overflow_sub-result : goal.overflow_sub-result
-overflow_sub-result c = let g = c in let s = g in
-    i_fits (i- (i_call g.grains_at.type_inv g.grains_at.ensures (grains_within s.requires.0.figures s.args.t)) (i_call c.correction.type_inv c.correction.ensures (correction_within _ _ (i_within (i_in (s.requires.0.small.at s.args.t) tt))))) tt
+overflow_sub-result c = i_fits (i- (i_call c.grains_at.type_inv c.grains_at.ensures (grains_within c.requires.0.figures c.args.t)) (i_call c.correction.type_inv c.correction.ensures (correction_within _ _ (i_within (i_in (c.requires.0.small.at c.args.t) tt))))) tt

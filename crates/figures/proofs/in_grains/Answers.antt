@@ -13,10 +13,10 @@ pub grains_at-requires : goal.grains_at-requires
 grains_at-requires c = (c.requires.0, omega arith)
 
 pub loop-t-preserved : goal.loop-t-preserved
-loop-t-preserved c = let l = c in (omega arith, l.loop-t.invariant.1, filled_more l.loop-t.invariant.2 (omega arith) (omega arith) (kept c.grains_at.type_inv c.grains_at.ensures))
+loop-t-preserved c = (omega arith, c.loop-t.invariant.1, filled_more c.loop-t.invariant.2 (omega arith) (omega arith) (kept c.grains_at.type_inv c.grains_at.ensures))
 
 pub shape_of-out : goal.shape_of-out
 shape_of-out c = c.loop-t.invariant.2.long
 
 pub returns : goal.returns
-returns c = let l = c in filled-tab l.loop-t.invariant.2 (omega arith) l.requires.1 ∙ times-is unit l.args.figures.now
+returns c = filled-tab c.loop-t.invariant.2 (omega arith) c.requires.1 ∙ times-is unit c.args.figures.now

@@ -53,12 +53,10 @@ over : (c : After-denominator) → let s = c in c.denominator.result ≡ denomin
 over c = let s = c in c.denominator.ensures ∙ window.any-weights s.args.f (row s.before.before.before.before.before.before) s.args.rows.now
 
 pub rounded-requires : goal.rounded-requires
-rounded-requires c = let p = c in let s = p in
-    let l = window.denominator-limits (F s.before.before.before.before.before.before) s.requires.0 (row s.before.before.before.before.before.before) in
-    (i_within (i_call p.dot-sum.type_inv p.dot-sum.ensures (rw (over c) (the_sum s.before.before.before.before.before.before))), omega (arith, l, over c), omega (arith, l, over c))
+rounded-requires c = let l = window.denominator-limits (F c.before.before.before.before.before.before) c.requires.0 (row c.before.before.before.before.before.before) in
+    (i_within (i_call c.dot-sum.type_inv c.dot-sum.ensures (rw (over c) (the_sum c.before.before.before.before.before.before))), omega (arith, l, over c), omega (arith, l, over c))
 
 pub returns : goal.returns
 unfolding row_for
-returns c = let q = c in let p = q in let s = p in
-    window.value_is (F s.before.before.before.before.before.before.before) s.args.x.now s.args.t s.args.earlier s.args.later s.requires.0 s.requires.1
-    q.denominator.result (kept p.dot-sum.type_inv p.dot-sum.ensures) (over q.before) (kept c.rounded.type_inv c.rounded.ensures)
+returns c = window.value_is (F c.before.before.before.before.before.before.before) c.args.x.now c.args.t c.args.earlier c.args.later c.requires.0 c.requires.1
+    c.denominator.result (kept c.dot-sum.type_inv c.dot-sum.ensures) (over c.before) (kept c.rounded.type_inv c.rounded.ensures)

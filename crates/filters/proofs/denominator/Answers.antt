@@ -5,7 +5,7 @@ use Rattle.filters.proofs.Window as window
 use Rattle.filters.proofs.denominator.Goals as goal
 
 pub returns-then-row-f : goal.returns-then-row-f
-returns-then-row-f c = let s = c in window.in_middle (table_of s.args.f []) s.args.row c.if-row-f.true
+returns-then-row-f c = window.in_middle (table_of c.args.f []) c.args.row c.if-row-f.true
 
 pub returns-else-row-f : goal.returns-else-row-f
-returns-else-row-f c = let s = c in window.at-ends (table_of s.args.f []) s.args.row c.if-row-f.false
+returns-else-row-f c = window.at-ends (table_of c.args.f []) c.args.row c.if-row-f.false

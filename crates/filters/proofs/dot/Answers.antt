@@ -26,10 +26,10 @@ light l h = let f : ℕ → ℕ = λ j. nat_abs (l.args.w.now ‼ (l.args.at + j
     omega (arith, sum_n-upto (l.loop-k.k + 1) l.args.m f (omega arith), sum_n-more l.loop-k.k f, l.requires.light)
 
 pub loop-k-preserved : goal.loop-k-preserved
-loop-k-preserved c = let l = c in let a = l.args in let p = l.requires in let w = a.w.now in let at = a.at in let k = l.loop-k.k in
-    let e = light l.before.before.before (omega arith) in (
+loop-k-preserved c = let a = c.args in let p = c.requires in let w = a.w.now in let at = a.at in let k = c.loop-k.k in
+    let e = light c.before.before.before (omega arith) in (
       omega arith,
-      i≤ (i≡ (i_kept (i+ l.loop-k.invariant.1 (i_kept (i* (i_in (self_within (w ‼ (at + k))) (omega (arith, lt→ltb, e))) (i_in (p.small k (omega arith)) tt)) (omega (arith, lt→ltb, e)))) (omega (arith, lt→ltb, e))) (sym (sum_more _ _)))
+      i≤ (i≡ (i_kept (i+ c.loop-k.invariant.1 (i_kept (i* (i_in (self_within (w ‼ (at + k))) (omega (arith, lt→ltb, e))) (i_in (p.small k (omega arith)) tt)) (omega (arith, lt→ltb, e)))) (omega (arith, lt→ltb, e))) (sym (sum_more _ _)))
           (omega (arith, sum_n-more k (λ j. nat_abs (w ‼ (at + j))))),
     )
 
@@ -39,11 +39,11 @@ returns c = let k≡m : c.loop-k.k ≡ c.args.m = omega arith in
     rw (← k≡m) c.loop-k.invariant.1.eq
 
 pub overflow_mul-sum-in-loop-k : goal.overflow_mul-sum-in-loop-k
-overflow_mul-sum-in-loop-k c = let l = c in let a = l.args in let p = l.requires in let w = a.w.now in let at = a.at in let k = l.loop-k.k in
-    let e = light l.before.before.before (omega arith) in
+overflow_mul-sum-in-loop-k c = let a = c.args in let p = c.requires in let w = a.w.now in let at = a.at in let k = c.loop-k.k in
+    let e = light c.before.before.before (omega arith) in
     i_fits (i* (i_in (self_within (w ‼ (at + k))) (omega (arith, lt→ltb, e))) (i_in (p.small k (omega arith)) tt)) (omega (arith, lt→ltb, e))
 
 pub overflow_add-sum-in-loop-k-2 : goal.overflow_add-sum-in-loop-k-2
-overflow_add-sum-in-loop-k-2 c = let l = c in let a = l.args in let p = l.requires in let w = a.w.now in let at = a.at in let k = l.loop-k.k in
-    let e = light l.before.before.before (omega arith) in
-    i_fits (i+ l.loop-k.invariant.1 (i_kept (i* (i_in (self_within (w ‼ (at + k))) (omega (arith, lt→ltb, e))) (i_in (p.small k (omega arith)) tt)) (omega (arith, lt→ltb, e)))) (omega (arith, lt→ltb, e))
+overflow_add-sum-in-loop-k-2 c = let a = c.args in let p = c.requires in let w = a.w.now in let at = a.at in let k = c.loop-k.k in
+    let e = light c.before.before.before (omega arith) in
+    i_fits (i+ c.loop-k.invariant.1 (i_kept (i* (i_in (self_within (w ‼ (at + k))) (omega (arith, lt→ltb, e))) (i_in (p.small k (omega arith)) tt)) (omega (arith, lt→ltb, e)))) (omega (arith, lt→ltb, e))

@@ -42,29 +42,29 @@ pub months_each-each-requires : goal.months_each-each-requires
 months_each-each-requires c = let q = c.requires.0.filterable in ((next-is c.before).room, omega (arith, q.inside, q.short))
 
 pub fill_rows-requires : goal.fill_rows-requires
-fill_rows-requires c = let m = c in let l = m in let s = l in let q = s.requires.0 in
-    (q.readable, part_serves (next m.before).part q.filterable, q.filterable.short, l.loop-turn.invariant.1.long ∙ s.requires.1)
+fill_rows-requires c = let q = c.requires.0 in
+    (q.readable, part_serves (next c.before).part q.filterable, q.filterable.short, c.loop-turn.invariant.1.long ∙ c.requires.1)
 
 pub loop-turn-smaller : goal.loop-turn-smaller
-loop-turn-smaller c = let m = c in omega (arith, (next m.before.before.before).some, m.loop-turn-test)
+loop-turn-smaller c = omega (arith, (next c.before.before.before).some, c.loop-turn-test)
 
 pub loop-turn-preserved : goal.loop-turn-preserved
-loop-turn-preserved c = let m = c in let l = m in let s = l in let n = next m.before.before.before in
-    (n.begun, filled_on l.loop-turn.invariant.1 c.fill_rows.ensures n.order (omega arith) (part_value n.part s.requires.0.readable s.args.x.now))
+loop-turn-preserved c = let n = next c.before.before.before in
+    (n.begun, filled_on c.loop-turn.invariant.1 c.fill_rows.ensures n.order (omega arith) (part_value n.part c.requires.0.readable c.args.x.now))
 
 pub shape_of-out : goal.shape_of-out
 shape_of-out c = c.loop-turn.invariant.1.long
 
 pub returns : goal.returns
-returns c = let l = c in let s = l in let a = s.args in
-    subst (λ (hi : ℕ). Filled (pos 0) (value_at (F s.before.before) a.first a.past a.x.now) a.first hi a.out.now l.loop-turn.out)
-    (all_filled s.requires.0.readable (omega (arith, c.loop-turn-test)) l.loop-turn.invariant.0) l.loop-turn.invariant.1
+returns c = let a = c.args in
+    subst (λ (hi : ℕ). Filled (pos 0) (value_at (F c.before.before) a.first a.past a.x.now) a.first hi a.out.now c.loop-turn.out)
+    (all_filled c.requires.0.readable (omega (arith, c.loop-turn-test)) c.loop-turn.invariant.0) c.loop-turn.invariant.1
 
 pub overflow_add-turn : goal.overflow_add-turn
-overflow_add-turn c = let m = c in let s = m in omega (arith, (next m.before.before.before).part.turns, s.requires.0.readable.side_most)
+overflow_add-turn c = omega (arith, (next c.before.before.before).part.turns, c.requires.0.readable.side_most)
 
 pub overflow_mul-lo : goal.overflow_mul-lo
-overflow_mul-lo c = let m = c in let q = m.requires.0.filterable in omega (arith, (next m.before.before.before).part.inside, q.inside, q.short)
+overflow_mul-lo c = let q = c.requires.0.filterable in omega (arith, (next c.before.before.before).part.inside, q.inside, q.short)
 
 pub overflow_add-lo : goal.overflow_add-lo
-overflow_add-lo c = let m = c in let q = m.requires.0.filterable in omega (arith, (next m.before.before.before).part.inside, q.inside, q.short)
+overflow_add-lo c = let q = c.requires.0.filterable in omega (arith, (next c.before.before.before).part.inside, q.inside, q.short)

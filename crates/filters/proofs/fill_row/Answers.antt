@@ -9,13 +9,13 @@ pub loop-t-init : goal.loop-t-init
 loop-t-init c = (omega arith, c.requires.1.order, filled_none)
 
 pub by_row-requires : goal.by_row-requires
-by_row-requires c = let l = c in let s = l in (s.requires.0, served-at s.requires.1 l.loop-t.t (omega arith) (omega arith), s.requires.2)
+by_row-requires c = (c.requires.0, served-at c.requires.1 c.loop-t.t (omega arith) (omega arith), c.requires.2)
 
 pub loop-t-preserved : goal.loop-t-preserved
-loop-t-preserved c = let l = c in (omega arith, omega arith, filled_more l.loop-t.invariant.2 (omega arith) (omega arith) (kept c.by_row.type_inv c.by_row.ensures))
+loop-t-preserved c = (omega arith, omega arith, filled_more c.loop-t.invariant.2 (omega arith) (omega arith) (kept c.by_row.type_inv c.by_row.ensures))
 
 pub shape_of-out : goal.shape_of-out
 shape_of-out c = c.loop-t.invariant.2.long
 
 pub returns : goal.returns
-returns c = let l = c in let e : l.loop-t.t ≡ l.args.hi = omega arith in rw (← e) l.loop-t.invariant.2
+returns c = let e : c.loop-t.t ≡ c.args.hi = omega arith in rw (← e) c.loop-t.invariant.2

@@ -19,32 +19,31 @@ In-loop-k = lts.In-loop tie.the-claims reads.Pre reads.Post goal.the-invariant-l
 -- the rows and the places of turn k
 room : (c : In-loop-k) → let a = c.args in let k = c.loop-k.k in
     (a.turn + k ≤ 2 * a.f.side) × (a.f.side ≤ most_side) × (a.at + k * a.each + a.each ≤ most_months)
-room c = let s = c in let w = s.requires.1.serves c.loop-k.k (omega (arith, c.loop-k-test)) in
-    (omega (arith, s.requires.1.turns, c.loop-k-test), s.requires.0.side_most, omega (arith, w.after, s.requires.2))
+room c = let w = c.requires.1.serves c.loop-k.k (omega (arith, c.loop-k-test)) in
+    (omega (arith, c.requires.1.turns, c.loop-k-test), c.requires.0.side_most, omega (arith, w.after, c.requires.2))
 
 pub loop-k-init : goal.loop-k-init
 loop-k-init c = let e : c.args.at + 0 * c.args.each ≡ c.args.at = omega arith in (omega arith, rw e filled_none)
 
 pub fill_row-requires : goal.fill_row-requires
 unfolding turn_before turn_after
-fill_row-requires c = let b = c in let i = b in let l = i in let s = l in
-    (s.requires.0, serves_as b.least-earlier.ensures b.least-later.ensures (s.requires.1.serves l.loop-k.k (omega (arith, i.loop-k-test))), s.requires.2, l.loop-k.invariant.1.long ∙ s.requires.3)
+fill_row-requires c = (c.requires.0, serves_as c.least-earlier.ensures c.least-later.ensures (c.requires.1.serves c.loop-k.k (omega (arith, c.loop-k-test))), c.requires.2, c.loop-k.invariant.1.long ∙ c.requires.3)
 
 pub loop-k-smaller : goal.loop-k-smaller
 loop-k-smaller c = omega (arith, c.loop-k-test)
 
 pub loop-k-preserved : goal.loop-k-preserved
-loop-k-preserved c = let b = c in let i = b in let l = i in let a = l.args in let k = l.loop-k.k in
+loop-k-preserved c = let a = c.args in let k = c.loop-k.k in
     let e : a.at + (k + 1) * a.each ≡ a.at + k * a.each + a.each = omega (arith, add-mul k 1 a.each) in (
-      omega (arith, i.loop-k-test),
-      rw e (filled_on l.loop-k.invariant.1 c.fill_row.ensures (omega arith) (omega arith)
-          (λ t u v. in-turn-at (table_of a.f a.rows.now) a.turn a.at a.each k a.x.now t u v b.least-earlier.ensures b.least-later.ensures)),
+      omega (arith, c.loop-k-test),
+      rw e (filled_on c.loop-k.invariant.1 c.fill_row.ensures (omega arith) (omega arith)
+          (λ t u v. in-turn-at (table_of a.f a.rows.now) a.turn a.at a.each k a.x.now t u v c.least-earlier.ensures c.least-later.ensures)),
     )
 
 pub shape_of-out : goal.shape_of-out
 shape_of-out c = c.loop-k.invariant.1.long
 
 pub returns : goal.returns
-returns c = let l = c in let e : l.loop-k.k ≡ l.args.count = omega (arith, l.loop-k.invariant.0, c.loop-k-test) in
-    let a = l.args in
-    subst (λ (j : ℕ). Filled (pos 0) (in_turn (table_of a.f a.rows.now) a.turn a.at a.each a.x.now) a.at (a.at + j * a.each) a.out.now l.loop-k.out) e l.loop-k.invariant.1
+returns c = let e : c.loop-k.k ≡ c.args.count = omega (arith, c.loop-k.invariant.0, c.loop-k-test) in
+    let a = c.args in
+    subst (λ (j : ℕ). Filled (pos 0) (in_turn (table_of a.f a.rows.now) a.turn a.at a.each a.x.now) a.at (a.at + j * a.each) a.out.now c.loop-k.out) e c.loop-k.invariant.1

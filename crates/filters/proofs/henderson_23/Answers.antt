@@ -10,7 +10,7 @@ use Rattle.filters.proofs.henderson_23.Goals as goal
 
 pub fill_months-requires : goal.fill_months-requires
 unfolding table_henderson
-fill_months-requires c = let s = c in (filters_all (readable_henderson TwentyThree) s.requires.0 s.requires.1, s.requires.2)
+fill_months-requires c = (filters_all (readable_henderson TwentyThree) c.requires.0 c.requires.1, c.requires.2)
 
 pub returns : goal.returns
 unfolding table_henderson filter

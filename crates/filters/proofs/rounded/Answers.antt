@@ -24,4 +24,4 @@ pub to_grain-requires : goal.to_grain-requires
 to_grain-requires c = rounds (i_arg c.ranges.sum c.requires.0) (d-is c) (omega arith) (omega arith) (lt_z_yes (lt→ltb 0 c.args.d c.requires.1))
 
 pub returns : goal.returns
-returns c = let s = c in kept c.to_grain.type_inv c.to_grain.ensures ∙ ap₂ to_grain (i_arg s.ranges.sum s.requires.0).eq (ap nat_abs (d-is s.before).eq)
+returns c = kept c.to_grain.type_inv c.to_grain.ensures ∙ ap₂ to_grain (i_arg c.ranges.sum c.requires.0).eq (ap nat_abs (d-is c.before).eq)

@@ -28,23 +28,22 @@ pub loop-t-init : goal.loop-t-init
 loop-t-init c = (omega arith, c.requires.2, filled_none)
 
 pub by_row-requires : goal.by_row-requires
-by_row-requires c = let b = c in let i = b in let l = i in let s = l in
-    (s.requires.0, place-served (F s.before.before.before.before) s.args.first s.args.past l.loop-t.t b.least-earlier.ensures c.least-later.ensures s.requires.1 (omega arith) (omega arith), s.requires.1.short)
+by_row-requires c = (c.requires.0, place-served (F c.before.before.before.before) c.args.first c.args.past c.loop-t.t c.least-earlier.ensures c.least-later.ensures c.requires.1 (omega arith) (omega arith), c.requires.1.short)
 
 pub loop-t-smaller : goal.loop-t-smaller
-loop-t-smaller c = let i = c in one_fewer i.loop-t.t i.args.past (omega (arith, i.loop-t-test))
+loop-t-smaller c = one_fewer c.loop-t.t c.args.past (omega (arith, c.loop-t-test))
 
 pub loop-t-preserved : goal.loop-t-preserved
-loop-t-preserved c = let d = c in let b = d in let i = b in let l = i in let s = l in (
+loop-t-preserved c = (
   omega arith,
   omega arith,
-  filled_more l.loop-t.invariant.2 (omega arith) (omega (arith, s.requires.1.inside, s.requires.3, l.loop-t.invariant.2.long))
-      (kept c.by_row.type_inv c.by_row.ensures ∙ by-counts (F s.before.before.before.before.before) s.args.first s.args.past l.loop-t.t b.least-earlier.ensures d.least-later.ensures s.args.x.now),
+  filled_more c.loop-t.invariant.2 (omega arith) (omega (arith, c.requires.1.inside, c.requires.3, c.loop-t.invariant.2.long))
+      (kept c.by_row.type_inv c.by_row.ensures ∙ by-counts (F c.before.before.before.before.before) c.args.first c.args.past c.loop-t.t c.least-earlier.ensures c.least-later.ensures c.args.x.now),
 )
 
 pub shape_of-out : goal.shape_of-out
 shape_of-out c = c.loop-t.invariant.2.long
 
 pub returns : goal.returns
-returns c = let l = c in let s = l in let a = s.args in let e : l.loop-t.t ≡ a.past = omega arith in
-    subst (λ (hi : ℕ). Filled (pos 0) (value_at (F s.before.before) a.first a.past a.x.now) a.first hi a.out.now l.loop-t.out) e l.loop-t.invariant.2
+returns c = let a = c.args in let e : c.loop-t.t ≡ a.past = omega arith in
+    subst (λ (hi : ℕ). Filled (pos 0) (value_at (F c.before.before) a.first a.past a.x.now) a.first hi a.out.now c.loop-t.out) e c.loop-t.invariant.2

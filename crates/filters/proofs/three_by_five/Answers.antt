@@ -6,7 +6,7 @@ use Rattle.filters.proofs.three_by_five.Goals as goal
 
 pub month_runs-requires : goal.month_runs-requires
 unfolding table_seasonal
-month_runs-requires c = let s = c in (record { readable = readable_seasonal ThreeByFive; enough = s.requires.1; filterable = s.requires.0 }, s.requires.2)
+month_runs-requires c = (record { readable = readable_seasonal ThreeByFive; enough = c.requires.1; filterable = c.requires.0 }, c.requires.2)
 
 pub returns : goal.returns
 unfolding table_seasonal

@@ -8,16 +8,15 @@ use Rattle.filters.proofs.ShortRuns.{short_readable, short_value}
 use Rattle.filters.proofs.three_by_nine.Goals as goal
 
 pub short_runs-requires : goal.short_runs-requires
-short_runs-requires c = let s = c in (short_readable, s.requires.0, s.requires.1, s.requires.2)
+short_runs-requires c = (short_readable, c.requires.0, c.requires.1, c.requires.2)
 
 pub month_runs-requires : goal.month_runs-requires
 unfolding table_seasonal
-month_runs-requires c = let i = c in let s = i in
-    (record { readable = readable_seasonal ThreeByNine; enough = omega (arith, i.if-past-first-lt120.false, s.requires.1); filterable = s.requires.0 }, s.requires.2)
+month_runs-requires c = (record { readable = readable_seasonal ThreeByNine; enough = omega (arith, c.if-past-first-lt120.false, c.requires.1); filterable = c.requires.0 }, c.requires.2)
 
 pub returns-then-past-first-lt120 : goal.returns-then-past-first-lt120
-returns-then-past-first-lt120 c = let i = c in let a = i.args in
-    filled_as c.short_runs.ensures (λ t l m. short_value a.first a.past a.x.now t i.if-past-first-lt120.true l m)
+returns-then-past-first-lt120 c = let a = c.args in
+    filled_as c.short_runs.ensures (λ t l m. short_value a.first a.past a.x.now t c.if-past-first-lt120.true l m)
 
 pub returns-else-past-first-lt120 : goal.returns-else-past-first-lt120
 unfolding table_seasonal

@@ -7,8 +7,7 @@ use Rattle.filters.proofs.three_by_three.Goals as goal
 
 pub month_runs-requires : goal.month_runs-requires
 unfolding middle_row row_count row_weight denominator sum_z
-month_runs-requires c = let s = c in
-    (record { readable = readable_means _ 27 (tt, tt, tt, tt, tt, tt, tt, tt, tt, tt, tt) tt; enough = s.requires.1; filterable = s.requires.0 }, s.requires.2)
+month_runs-requires c = (record { readable = readable_means _ 27 (tt, tt, tt, tt, tt, tt, tt, tt, tt, tt, tt) tt; enough = c.requires.1; filterable = c.requires.0 }, c.requires.2)
 
 pub returns : goal.returns
 unfolding table_seasonal

@@ -8,8 +8,7 @@ use Rattle.filters.proofs.two_by_twelve.Goals as goal
 
 pub fill_inside-requires : goal.fill_inside-requires
 unfolding middle_row row_count row_weight denominator sum_z
-fill_inside-requires c = let s = c in
-    (record { readable = readable_means _ 24 (tt, tt, tt, tt, tt, tt, tt, tt, tt, tt, tt) tt; enough = omega (arith, s.requires.1); filterable = s.requires.0 }, s.requires.2)
+fill_inside-requires c = (record { readable = readable_means _ 24 (tt, tt, tt, tt, tt, tt, tt, tt, tt, tt, tt) tt; enough = omega (arith, c.requires.1); filterable = c.requires.0 }, c.requires.2)
 
 pub returns : goal.returns
 unfolding table2x12

@@ -30,7 +30,7 @@ module _ (s : Start) where
   two-d = omega (arith, abs-mul (pos 2) s.args.d, pos-abs s.args.d s.requires.positive)
 
 numerator : (c : After-farther) → Reads (to_z w64 (of_z w64 c.farther.result)) (farther c.args.x c.args.d) (2 * largest_numerator + largest_divisor)
-numerator c = let s = c in i_call c.farther.type_inv (c.farther.ensures ∙ ap₂ farther (to_z-of_z s.ranges.x) (to_z-of_z s.ranges.d)) (farther-within (numerator_within s.requires) s.requires.divisor)
+numerator c = i_call c.farther.type_inv (c.farther.ensures ∙ ap₂ farther (to_z-of_z c.ranges.x) (to_z-of_z c.ranges.d)) (farther-within (numerator_within c.requires) c.requires.divisor)
 
 pub returns : goal.returns
-returns c = let s = c in (i_kept (i/ (numerator c) (i_kept (twice-d s.before) tt)) tt).eq ∙ farther-quot s.args.x s.args.d s.requires.positive
+returns c = (i_kept (i/ (numerator c) (i_kept (twice-d c.before) tt)) tt).eq ∙ farther-quot c.args.x c.args.d c.requires.positive

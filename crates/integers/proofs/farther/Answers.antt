@@ -19,8 +19,8 @@ module _ (s : Start) where
 
 pub returns-then-x-lt0 : goal.returns-then-x-lt0
 unfolding farther
-returns-then-x-lt0 c = let s = c in let e = rw (x_is s.before).eq at c.if-x-lt0.true in rw e (i_kept (i- (i_kept (i* (i_lit 2) (x_is s.before)) tt) (d-is s.before)) tt).eq
+returns-then-x-lt0 c = let e = rw (x_is c.before).eq at c.if-x-lt0.true in rw e (i_kept (i- (i_kept (i* (i_lit 2) (x_is c.before)) tt) (d-is c.before)) tt).eq
 
 pub returns-else-x-lt0 : goal.returns-else-x-lt0
 unfolding farther
-returns-else-x-lt0 c = let s = c in let e = rw (x_is s.before).eq at c.if-x-lt0.false in rw e (i_kept (i+ (i_kept (i* (i_lit 2) (x_is s.before)) tt) (d-is s.before)) tt).eq
+returns-else-x-lt0 c = let e = rw (x_is c.before).eq at c.if-x-lt0.false in rw e (i_kept (i+ (i_kept (i* (i_lit 2) (x_is c.before)) tt) (d-is c.before)) tt).eq

@@ -125,10 +125,10 @@ result-is : (c : After-odd) → let b = c in
 result-is c = let b = c in i- (i_kept (even_is b.before) tt) (i_call c.odd.type_inv c.odd.ensures (bit-within (leb (y b.before % pair b.before) (before b.before + after b.before))))
 
 pub returns : goal.returns
-returns c = let b = c in let s = s b.before in let r = y b.before % pair b.before in
+returns c = let s = s c.before in let r = y c.before % pair c.before in
     (i_kept (result-is c) tt).eq
-    ∙ ap (λ (k : ℕ). pos 2 *ℤ (pos (y b.before / pair b.before) -ℤ pos many) -ℤ cond (leb r k) (pos 1) (pos 0)) (alike b.before)
-    ∙ by_pairs (x s) (n s) many (whole s) (before b.before) (y b.before / pair b.before) r (raised s ∙ ap pos (sym (whole_is s))) (sym (y-is b.before).0) (y-is b.before).1 (fewer b.before) (most b.before)
+    ∙ ap (λ (k : ℕ). pos 2 *ℤ (pos (y c.before / pair c.before) -ℤ pos many) -ℤ cond (leb r k) (pos 1) (pos 0)) (alike c.before)
+    ∙ by_pairs (x s) (n s) many (whole s) (before c.before) (y c.before / pair c.before) r (raised s ∙ ap pos (sym (whole_is s))) (sym (y-is c.before).0) (y-is c.before).1 (fewer c.before) (most c.before)
     ∙ ap (to_grain (x s)) (n-is s)
 
 pub overflow_mul-even : goal.overflow_mul-even

@@ -22,8 +22,7 @@ wide-byte-requires c = tt
 
 pub loop-i-preserved : goal.loop-i-preserved
 loop-i-preserved c =
-    let l = c in
-    (omega arith, one_more l.args.bytes.now l.loop-i.i l.loop-i.invariant.1 (omega (arith, c.wide-byte.ensures.0, c.wide-byte.ensures.1)))
+    (omega arith, one_more c.args.bytes.now c.loop-i.i c.loop-i.invariant.1 (omega (arith, c.wide-byte.ensures.0, c.wide-byte.ensures.1)))
 
 pub returns : goal.returns
 returns c = record { each = λ k h. c.loop-i.invariant.1 k (omega arith) }

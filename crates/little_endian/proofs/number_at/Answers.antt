@@ -25,20 +25,18 @@ wide-requires c = tt
 
 pub loop-i-preserved : goal.loop-i-preserved
 loop-i-preserved c =
-    let l = c in
-    let a = l.args in (
+    let a = c.args in (
       omega arith,
-      rw c.wide.ensures.0 (read_more a.bytes.now a.at a.width l.loop-i.i l.loop-i.value (omega arith) l.loop-i.invariant.1),
-      small_more l.loop-i.value c.wide.result l.loop-i.i l.loop-i.invariant.2 c.wide.ensures.1,
+      rw c.wide.ensures.0 (read_more a.bytes.now a.at a.width c.loop-i.i c.loop-i.value (omega arith) c.loop-i.invariant.1),
+      small_more c.loop-i.value c.wide.result c.loop-i.i c.loop-i.invariant.2 c.wide.ensures.1,
     )
 
 pub returns : goal.returns
 returns c =
-    let l = c in
-    let a = l.args in
-    let w : l.loop-i.i ≡ a.width = omega arith in
+    let a = c.args in
+    let w : c.loop-i.i ≡ a.width = omega arith in
     let z : a.at + (a.width - a.width) ≡ a.at = omega arith in
-    record { value = rw (w, z) at l.loop-i.invariant.1; small = rw w at l.loop-i.invariant.2 }
+    record { value = rw (w, z) at c.loop-i.invariant.1; small = rw w at c.loop-i.invariant.2 }
 
 pub overflow_mul-value : goal.overflow_mul-value
 overflow_mul-value c = record { fits = omega (arith, below c.before) }

@@ -11,11 +11,10 @@ loop-i-init c = (omega arith, refl, rw (add-zero, sub-zero))
 
 pub loop-i-preserved : goal.loop-i-preserved
 loop-i-preserved c =
-    let l = c in
-    let s = l.args in (
+    let s = c.args in (
       omega arith,
-      length-set l.loop-i.out (s.at + l.loop-i.i) _ ∙ l.loop-i.invariant.1,
-      l.loop-i.invariant.2 ∙ write_more l.loop-i.out s.at s.width l.loop-i.i l.loop-i.rest (omega arith),
+      length-set c.loop-i.out (s.at + c.loop-i.i) _ ∙ c.loop-i.invariant.1,
+      c.loop-i.invariant.2 ∙ write_more c.loop-i.out s.at s.width c.loop-i.i c.loop-i.rest (omega arith),
     )
 
 pub shape_of-out : goal.shape_of-out
@@ -23,6 +22,5 @@ shape_of-out c = c.loop-i.invariant.1
 
 pub returns : goal.returns
 returns c =
-    let l = c in
-    let s = l.args in
-    sym (l.loop-i.invariant.2 ∙ write-none l.loop-i.out s.at s.width l.loop-i.i l.loop-i.rest (omega arith))
+    let s = c.args in
+    sym (c.loop-i.invariant.2 ∙ write-none c.loop-i.out s.at s.width c.loop-i.i c.loop-i.rest (omega arith))

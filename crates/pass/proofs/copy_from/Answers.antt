@@ -18,24 +18,23 @@ pub loop-t-init : goal.loop-t-init
 loop-t-init c = (omega arith, c.requires.0.order, filled_none)
 
 -- the month that month t copies is there
-looks : (c : In-loop-t) → let l = c in let a = l.args in a.i + (l.loop-t.t - a.lo) < length a.out.now
-looks c = let s = c in omega (arith, s.requires.0.from, s.requires.0.inside)
+looks : (c : In-loop-t) → let a = c.args in a.i + (c.loop-t.t - a.lo) < length a.out.now
+looks c = omega (arith, c.requires.0.from, c.requires.0.inside)
 
 pub slice_copy_out-out : goal.slice_copy_out-out
 slice_copy_out-out c = omega (arith, looks c, c.loop-t.invariant.2.long)
 
 pub loop-t-preserved : goal.loop-t-preserved
 unfolding along
-loop-t-preserved c = let l = c in let s = l in
-    let e : s.args.i + (l.loop-t.t - s.args.lo) ≡ s.args.i + 1 * (l.loop-t.t - s.args.lo) = omega arith in (
-      omega arith,
-      omega arith,
-      filled_more l.loop-t.invariant.2 (omega arith) (omega (arith, l.loop-t.invariant.2.long, s.requires.0.inside, c.loop-t-test))
-          (kept c.out-1.given (ap (λ (k : ℕ). l.loop-t.out ‼ k) e ∙ l.loop-t.invariant.2.rest _ (copied-apart s.requires.0 l.loop-t.t (omega arith) (omega arith)))),
-    )
+loop-t-preserved c = let e : c.args.i + (c.loop-t.t - c.args.lo) ≡ c.args.i + 1 * (c.loop-t.t - c.args.lo) = omega arith in (
+  omega arith,
+  omega arith,
+  filled_more c.loop-t.invariant.2 (omega arith) (omega (arith, c.loop-t.invariant.2.long, c.requires.0.inside, c.loop-t-test))
+      (kept c.out-1.given (ap (λ (k : ℕ). c.loop-t.out ‼ k) e ∙ c.loop-t.invariant.2.rest _ (copied-apart c.requires.0 c.loop-t.t (omega arith) (omega arith)))),
+)
 
 pub shape_of-out : goal.shape_of-out
 shape_of-out c = c.loop-t.invariant.2.long
 
 pub returns : goal.returns
-returns c = let l = c in let e : l.loop-t.t ≡ l.args.hi = omega arith in rw (← e) l.loop-t.invariant.2
+returns c = let e : c.loop-t.t ≡ c.args.hi = omega arith in rw (← e) c.loop-t.invariant.2

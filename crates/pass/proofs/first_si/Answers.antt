@@ -10,9 +10,9 @@ pub two_by_twelve-requires : goal.two_by_twelve-requires
 two_by_twelve-requires c = let s = c.requires in (all-months (x_filterable plain_sound s.0), omega (arith, s.0.long), s.1)
 
 pub less_from-requires : goal.less_from-requires
-less_from-requires c = let t = c in let s = t.requires in
-    (own_levels (levels plain_sound (all-months (x_filterable plain_sound s.0)) (omega (arith, s.0.long)) s.1 t.two_by_twelve.ensures), s.2)
+less_from-requires c = let s = c.requires in
+    (own_levels (levels plain_sound (all-months (x_filterable plain_sound s.0)) (omega (arith, s.0.long)) s.1 c.two_by_twelve.ensures), s.2)
 
 pub returns : goal.returns
-returns c = let t = c in let s = t.requires.0 in let u = to_t1 plain_sound s t.two_by_twelve.ensures in
+returns c = let s = c.requires.0 in let u = to_t1 plain_sound s c.two_by_twelve.ensures in
     (u, to_si1 plain_sound s u c.less_from.ensures)

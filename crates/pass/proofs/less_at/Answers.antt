@@ -3,4 +3,4 @@ use Rattle.integers.proofs.Signed64.{i-, i_kept, i_in}
 use Rattle.pass.proofs.less_at.Goals as goal
 
 pub returns : goal.returns
-returns c = let s = c in (i_kept (i- (i_in s.requires.2 tt) (i_in s.requires.3 tt)) tt).eq
+returns c = (i_kept (i- (i_in c.requires.2 tt) (i_in c.requires.3 tt)) tt).eq

@@ -24,18 +24,18 @@ looks c = let l = c in let s = l in (s.requires.0.each l.loop-t.t (omega arith) 
 
 pub less_at-requires : goal.less_at-requires
 unfolding along
-less_at-requires c = let l = c in let p = l.requires.0 in
-    (omega (arith, p.inside), (looks c).0, p.left l.loop-t.t (omega arith) (omega arith), p.right l.loop-t.t (omega arith) (omega arith))
+less_at-requires c = let p = c.requires.0 in
+    (omega (arith, p.inside), (looks c).0, p.left c.loop-t.t (omega arith) (omega arith), p.right c.loop-t.t (omega arith) (omega arith))
 
 pub loop-t-preserved : goal.loop-t-preserved
 unfolding along
-loop-t-preserved c = let l = c in let s = l in (omega arith, omega arith, filled_more l.loop-t.invariant.2 (omega arith) (omega (arith, l.loop-t.invariant.2.long, s.requires.0.inside, s.requires.1)) (kept c.less_at.type_inv c.less_at.ensures))
+loop-t-preserved c = (omega arith, omega arith, filled_more c.loop-t.invariant.2 (omega arith) (omega (arith, c.loop-t.invariant.2.long, c.requires.0.inside, c.requires.1)) (kept c.less_at.type_inv c.less_at.ensures))
 
 pub shape_of-out : goal.shape_of-out
 shape_of-out c = c.loop-t.invariant.2.long
 
 pub returns : goal.returns
-returns c = let l = c in let e : l.loop-t.t ≡ l.args.hi = omega arith in rw (← e) l.loop-t.invariant.2
+returns c = let e : c.loop-t.t ≡ c.args.hi = omega arith in rw (← e) c.loop-t.invariant.2
 
 pub overflow_mul-step : goal.overflow_mul-step
 overflow_mul-step c = omega (arith, looks c)

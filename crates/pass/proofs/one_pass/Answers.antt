@@ -19,13 +19,13 @@ is-s1 : (f : After-first_seasonal) → f.first_seasonal.new.out ≡ S1 (plain_by
 is-s1 f = f.first_seasonal.ensures ∙ same_s1 _ _ none none none _
 
 pub trend-requires : goal.trend-requires
-trend-requires c = let f = c in let s = f.requires in
-    (adjustable (monthly-sound _ none none) s.0 (is-s1 f.before.before.before.before.before.before), omega (arith, s.1), omega (arith, s.2))
+trend-requires c = let s = c.requires in
+    (adjustable (monthly-sound _ none none) s.0 (is-s1 c.before.before.before.before.before.before), omega (arith, s.1), omega (arith, s.2))
 
 pub second_seasonal-requires : goal.second_seasonal-requires
-second_seasonal-requires c = let p = c in let f = p in let s = f.requires in
-    (s.0, to_t2 (monthly-sound _ none none) s.0 (is-s1 f.before.before.before.before.before.before.before.before.before.before.before.before) p.trend.ensures, record { a_long = omega (arith, s.1); b_long = omega (arith, s.1); out_long = omega (arith, s.1) })
+second_seasonal-requires c = let s = c.requires in
+    (s.0, to_t2 (monthly-sound _ none none) s.0 (is-s1 c.before.before.before.before.before.before.before.before.before.before.before.before) c.trend.ensures, record { a_long = omega (arith, s.1); b_long = omega (arith, s.1); out_long = omega (arith, s.1) })
 
 pub returns : goal.returns
-returns c = let l = c in let p = l in let f = p in let s = f.requires in
-    record { trend = to_t2 (monthly-sound _ none none) s.0 (is-s1 f.before.before.before.before.before.before.before.before.before.before.before.before.before.before.before.before) p.trend.ensures; seasonal = l.second_seasonal.ensures }
+returns c = let s = c.requires in
+    record { trend = to_t2 (monthly-sound _ none none) s.0 (is-s1 c.before.before.before.before.before.before.before.before.before.before.before.before.before.before.before.before) c.trend.ensures; seasonal = c.second_seasonal.ensures }

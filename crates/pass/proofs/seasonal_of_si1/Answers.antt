@@ -15,11 +15,10 @@ pub three_by_three-requires : goal.three_by_three-requires
 three_by_three-requires c = let s = c.requires in (s.filterable, omega (arith, s.long), s.r_long)
 
 pub without_level-requires : goal.without_level-requires
-without_level-requires c = let r = c in let s = r.requires in
-    (mean_filterable (average_seasonal ThreeByThree) plain_sound.seasonal1_norm s.filterable s.r_long r.three_by_three.ensures, omega (arith, s.long), omega (arith, s.m_long, s.r_long), omega (arith, s.out_long, s.r_long))
+without_level-requires c = let s = c.requires in
+    (mean_filterable (average_seasonal ThreeByThree) plain_sound.seasonal1_norm s.filterable s.r_long c.three_by_three.ensures, omega (arith, s.long), omega (arith, s.m_long, s.r_long), omega (arith, s.out_long, s.r_long))
 
 pub returns : goal.returns
-returns c = let l = c in let r = l in let s = r in
-    c.widen.ensures
-    ∙ ap (widened 6) (inner-is (l.without_level.ensures.long ∙ s.requires.out_long)
-    (level-months table2x12 (filter-months (table_seasonal ThreeByThree) (inner-months 6 s.args.si.now) r.three_by_three.ensures) plain_sound.reach_is (omega (arith, s.requires.long)) l.without_level.ensures))
+returns c = c.widen.ensures
+    ∙ ap (widened 6) (inner-is (c.without_level.ensures.long ∙ c.requires.out_long)
+    (level-months table2x12 (filter-months (table_seasonal ThreeByThree) (inner-months 6 c.args.si.now) c.three_by_three.ensures) plain_sound.reach_is (omega (arith, c.requires.long)) c.without_level.ensures))

@@ -14,10 +14,9 @@ pub seasonal-requires : goal.seasonal-requires
 seasonal-requires c = let s = c.requires in (all-months s.filterable, omega (arith, s.long), s.r_long)
 
 pub without_level-requires : goal.without_level-requires
-without_level-requires c = let r = c in let s = r.requires in
-    (mean_filterable (average_seasonal r.args.chosen) (light_seasonal r.args.chosen) (all-months s.filterable) s.r_long r.seasonal.ensures, omega (arith, s.long), omega (arith, s.r_long), omega (arith, s.out_long, s.r_long))
+without_level-requires c = let s = c.requires in
+    (mean_filterable (average_seasonal c.args.chosen) (light_seasonal c.args.chosen) (all-months s.filterable) s.r_long c.seasonal.ensures, omega (arith, s.long), omega (arith, s.r_long), omega (arith, s.out_long, s.r_long))
 
 pub returns : goal.returns
-returns c = let l = c in let r = l in let s = r in
-    whole_is (l.without_level.ensures.long ∙ s.requires.out_long)
-    (level-months table2x12 (filter-months (table_seasonal s.args.chosen) (whole-months s.args.si.now refl) r.seasonal.ensures) plain_sound.reach_is (omega (arith, s.requires.long)) l.without_level.ensures)
+returns c = whole_is (c.without_level.ensures.long ∙ c.requires.out_long)
+    (level-months table2x12 (filter-months (table_seasonal c.args.chosen) (whole-months c.args.si.now refl) c.seasonal.ensures) plain_sound.reach_is (omega (arith, c.requires.long)) c.without_level.ensures)

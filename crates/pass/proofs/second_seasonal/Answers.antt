@@ -26,12 +26,12 @@ pub minus-requires : goal.minus-requires
 minus-requires c = let s = c.requires in (minusable2 (sound _) s.0 s.1, s.2.a_long)
 
 pub seasonal_of_si2-requires : goal.seasonal_of_si2-requires
-seasonal_of_si2-requires c = let p = c in let s = p.requires in record {
-  filterable = si2_filterable (sound _) s.0 (is-si2 p.before.before.before.before);
+seasonal_of_si2-requires c = let s = c.requires in record {
+  filterable = si2_filterable (sound _) s.0 (is-si2 c.before.before.before.before);
   long = omega (arith, s.0.long, s.2);
   r_long = omega (arith, s.2);
   out_long = omega (arith, s.2);
 }
 
 pub returns : goal.returns
-returns c = let p = c in to_s2 (sound _) p.requires.0 (is-si2 p.before.before.before.before.before.before.before.before) c.seasonal_of_si2.ensures
+returns c = to_s2 (sound _) c.requires.0 (is-si2 c.before.before.before.before.before.before.before.before) c.seasonal_of_si2.ensures

@@ -7,8 +7,7 @@ use Rattle.pass.proofs.Stages.{less_filterable}
 use Rattle.pass.proofs.trend.Goals as goal
 
 pub henderson-requires : goal.henderson-requires
-henderson-requires c = let m = c in let s = m in
-    (less_filterable s.requires.0 m.minus.ensures, omega (arith, s.requires, s.requires.0.long), omega (arith, s.requires))
+henderson-requires c = (less_filterable c.requires.0 c.minus.ensures, omega (arith, c.requires, c.requires.0.long), omega (arith, c.requires))
 
 pub returns : goal.returns
-returns c = let m = c in c.henderson.ensures ∙ ap (filter (table_henderson m.args.terms)) m.minus.ensures
+returns c = c.henderson.ensures ∙ ap (filter (table_henderson c.args.terms)) c.minus.ensures

@@ -6,11 +6,10 @@ use Rattle.pass.proofs.Stages.{levels}
 use Rattle.pass.proofs.without_level.Goals as goal
 
 pub two_by_twelve-requires : goal.two_by_twelve-requires
-two_by_twelve-requires c = let s = c in (s.requires.0, s.requires.1, s.requires.2)
+two_by_twelve-requires c = (c.requires.0, c.requires.1, c.requires.2)
 
 pub less_level-requires : goal.less_level-requires
-less_level-requires c = let m = c in let s = m in (levels plain_sound s.requires.0 s.requires.1 s.requires.2 m.two_by_twelve.ensures, s.requires.3)
+less_level-requires c = (levels plain_sound c.requires.0 c.requires.1 c.requires.2 c.two_by_twelve.ensures, c.requires.3)
 
 pub returns : goal.returns
-returns c = let m = c in let s = m in
-    without_levels (levels plain_sound s.requires.0 s.requires.1 s.requires.2 m.two_by_twelve.ensures) table2x12 m.two_by_twelve.ensures c.less_level.ensures
+returns c = without_levels (levels plain_sound c.requires.0 c.requires.1 c.requires.2 c.two_by_twelve.ensures) table2x12 c.two_by_twelve.ensures c.less_level.ensures

@@ -120,15 +120,15 @@ pub first_si-requires : goal.first_si-requires
 first_si-requires c = let s = c.requires in (series s.0, s.1.a_long, s.1.b_long)
 
 pub three_by_three-requires : goal.three_by_three-requires
-three_by_three-requires c = let f = c in let h = (s f.before.before.before.before).requires in (si1-months h.0 (stands f.before.before.before.before), omega (arith, h.0.long), omega (arith, h.1, f.first_si))
+three_by_three-requires c = let h = (s c.before.before.before.before).requires in (si1-months h.0 (stands c.before.before.before.before), omega (arith, h.0.long), omega (arith, h.1, c.first_si))
 
 pub weigh-requires : goal.weigh-requires
-weigh-requires c = let m = c in let r = m in let h = (s (f r.before.before.before.before.before.before.before)).requires in let y = (s (f r.before.before.before.before.before.before.before)).args in
-    weighs1 h.0 (is-si1 (f r.before.before.before.before.before.before.before)) m.month_of-start_b4.ensures.1 m.month_of-start_b4.ensures.2 (is-3x3 r.before.before.before.before.before.before.before) (lent (f r.before.before.before.before.before.before.before) y.t.now h.1.t_long) (lent (f r.before.before.before.before.before.before.before) y.s.now h.1.s_long) (lent (f r.before.before.before.before.before.before.before) y.w.now h.1.w_long)
+weigh-requires c = let h = (s (f c.before.before.before.before.before.before.before)).requires in let y = (s (f c.before.before.before.before.before.before.before)).args in
+    weighs1 h.0 (is-si1 (f c.before.before.before.before.before.before.before)) c.month_of-start_b4.ensures.1 c.month_of-start_b4.ensures.2 (is-3x3 c.before.before.before.before.before.before.before) (lent (f c.before.before.before.before.before.before.before) y.t.now h.1.t_long) (lent (f c.before.before.before.before.before.before.before) y.s.now h.1.s_long) (lent (f c.before.before.before.before.before.before.before) y.w.now h.1.w_long)
 
 pub replace-requires : goal.replace-requires
-replace-requires c = let g = c in let i = k g.before.before.before.before.before.before.before.before in let b = lent i i.first_si.new.si (stands i).long in
-    (si1_filterable (s i).requires.0 (is-si1 i), lent i (w g.before.before.before.before.before.before.before.before) (w-back g.before.before.before.before.before.before.before.before) ∙ sym b, lent i (a g.before.before.before.before.before.before.before.before) (a_back g.before.before.before.before.before.before.before.before) ∙ sym b)
+replace-requires c = let i = k c.before.before.before.before.before.before.before.before in let b = lent i i.first_si.new.si (stands i).long in
+    (si1_filterable (s i).requires.0 (is-si1 i), lent i (w c.before.before.before.before.before.before.before.before) (w-back c.before.before.before.before.before.before.before.before) ∙ sym b, lent i (a c.before.before.before.before.before.before.before.before) (a_back c.before.before.before.before.before.before.before.before) ∙ sym b)
 
 -- SI1 replaced, at its own months, and the rest of a as it was
 replaced-filled : (c : After-a-4-1) → let g = c in let i = k g.before.before.before.before.before.before.before.before.before.before in

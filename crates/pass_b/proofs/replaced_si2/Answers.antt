@@ -14,18 +14,18 @@ pub minus-requires : goal.minus-requires
 minus-requires c = let s = c.requires in (stages.minusable2 (sound4 s.0) (series s.0) s.1, s.2.a_long)
 
 pub three_by_five-requires : goal.three_by_five-requires
-three_by_five-requires c = let m = c in let s = m.requires in let a = si2_long s.0 (stages.to_si2 (sound4 s.0) (series s.0) s.1 c.minus.ensures) in
+three_by_five-requires c = let s = c.requires in let a = si2_long s.0 (stages.to_si2 (sound4 s.0) (series s.0) s.1 c.minus.ensures) in
     (si2-months s.0 (stages.to_si2 (sound4 s.0) (series s.0) s.1 c.minus.ensures), omega (arith, s.0.long), omega (arith, s.2.b_long, a))
 
 pub weigh-requires : goal.weigh-requires
-weigh-requires c = let r = c in let m = r in let s = m.requires in weighs2 s.0 (stages.to_si2 (sound4 s.0) (series s.0) s.1 c.minus.ensures) (si2_3x5 s.0 (stages.to_si2 (sound4 s.0) (series s.0) s.1 c.minus.ensures) c.three_by_five.ensures s.2.b_long) s.2.t_long s.2.s_long s.2.w_long
+weigh-requires c = let s = c.requires in weighs2 s.0 (stages.to_si2 (sound4 s.0) (series s.0) s.1 c.minus.ensures) (si2_3x5 s.0 (stages.to_si2 (sound4 s.0) (series s.0) s.1 c.minus.ensures) c.three_by_five.ensures s.2.b_long) s.2.t_long s.2.s_long s.2.w_long
 
 pub replace-requires : goal.replace-requires
-replace-requires c = let g = c in let r = g in let m = r in let s = m.requires in let a = si2_long s.0 (stages.to_si2 (sound4 s.0) (series s.0) s.1 c.minus.ensures) in
-    (si2_filterable s.0 (stages.to_si2 (sound4 s.0) (series s.0) s.1 c.minus.ensures), omega (arith, s.2.w_long, a, g.weigh), omega (arith, s.2.b_long, a, r.three_by_five, g.weigh))
+replace-requires c = let s = c.requires in let a = si2_long s.0 (stages.to_si2 (sound4 s.0) (series s.0) s.1 c.minus.ensures) in
+    (si2_filterable s.0 (stages.to_si2 (sound4 s.0) (series s.0) s.1 c.minus.ensures), omega (arith, s.2.w_long, a, c.weigh), omega (arith, s.2.b_long, a, c.three_by_five, c.weigh))
 
 pub minus-requires-2 : goal.minus-requires-2
-minus-requires-2 c = let g = c in let r = g in let m = r in let s = m.requires in (si2_minusable s.0 (stages.to_si2 (sound4 s.0) (series s.0) s.1 c.minus.ensures), omega (arith, s.2.t_long, g.weigh))
+minus-requires-2 c = let s = c.requires in (si2_minusable s.0 (stages.to_si2 (sound4 s.0) (series s.0) s.1 c.minus.ensures), omega (arith, s.2.t_long, c.weigh))
 
 pub returns : goal.returns
 returns c = let h = c.requires in let e : c.minus.new.out ≡ SI2 (choices_b4 c.args.start c.args.x.now) c.args.x.now = stages.to_si2 (sound4 h.0) (series h.0) h.1 c.minus.ensures in record {

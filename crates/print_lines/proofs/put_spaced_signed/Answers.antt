@@ -11,8 +11,7 @@ use Rattle.print_lines.proofs.put_spaced_signed.Goals as goal
 
 pub put_signed-requires : goal.put_signed-requires
 put_signed-requires c =
-    let s = c in
-    omega (arith, ap length (ap signed_digits (to_z-of_z s.ranges.x)), at-most-signed s.args.x s.ranges.x.sfits)
+    omega (arith, ap length (ap signed_digits (to_z-of_z c.ranges.x)), at-most-signed c.args.x c.ranges.x.sfits)
 
 pub returns : goal.returns
 returns c = number_kept c.ranges.x (stored-then c.put_byte-next.ensures c.put_signed.ensures)

@@ -11,9 +11,7 @@ pub returns-then-n-gt-MOST_MONTHS : goal.returns-then-n-gt-MOST_MONTHS
 returns-then-n-gt-MOST_MONTHS c = record { at = 1; before = le-ltb _ _ c.if-n-lt-LEAST_MONTHS.false & tt; here = row-applies 2 (lt-ltb _ _ c.if-n-gt-MOST_MONTHS.true) }
 
 pub returns-then-start_outside : goal.returns-then-start_outside
-returns-then-start_outside c = let o = c in let b = o in
-    record { at = 2; before = le-ltb _ _ b.if-n-lt-LEAST_MONTHS.false & le-ltb _ _ b.if-n-gt-MOST_MONTHS.false & tt; here = row-applies 3 (sym o.start_outside.ensures ∙ c.if-start_outside.true) }
+returns-then-start_outside c = record { at = 2; before = le-ltb _ _ c.if-n-lt-LEAST_MONTHS.false & le-ltb _ _ c.if-n-gt-MOST_MONTHS.false & tt; here = row-applies 3 (sym c.start_outside.ensures ∙ c.if-start_outside.true) }
 
 pub returns : goal.returns
-returns c = let o = c in let b = o in
-    record { least = b.if-n-lt-LEAST_MONTHS.false; most = b.if-n-gt-MOST_MONTHS.false; inside = not-false _ (sym o.start_outside.ensures ∙ c.if-start_outside.false) }
+returns c = record { least = c.if-n-lt-LEAST_MONTHS.false; most = c.if-n-gt-MOST_MONTHS.false; inside = not-false _ (sym c.start_outside.ensures ∙ c.if-start_outside.false) }

@@ -8,14 +8,14 @@ pub loop-t-init : goal.loop-t-init
 loop-t-init c = (omega arith, omega arith, filled_none)
 
 pub replaced_at-requires : goal.replaced_at-requires
-replaced_at-requires c = let s = c in record { filterable = s.requires.0; long = s.requires.1; place = omega arith }
+replaced_at-requires c = record { filterable = c.requires.0; long = c.requires.1; place = omega arith }
 
 pub loop-t-preserved : goal.loop-t-preserved
-loop-t-preserved c = let l = c in (omega arith, l.loop-t.invariant.1, filled_more l.loop-t.invariant.2 (omega arith) (omega arith) (kept c.replaced_at.type_inv c.replaced_at.ensures))
+loop-t-preserved c = (omega arith, c.loop-t.invariant.1, filled_more c.loop-t.invariant.2 (omega arith) (omega arith) (kept c.replaced_at.type_inv c.replaced_at.ensures))
 
 pub shape_of-out : goal.shape_of-out
 shape_of-out c = c.loop-t.invariant.2.long
 
 pub returns : goal.returns
 unfolding replaced_by
-returns c = let l = c in filled-tab l.loop-t.invariant.2 (omega arith) l.requires.2
+returns c = filled-tab c.loop-t.invariant.2 (omega arith) c.requires.2

@@ -7,24 +7,21 @@ use Rattle.replacing.proofs.NeighbourLaws.{full-stays, alone_stays, count_most, 
 use Rattle.replacing.proofs.replaced_at.Goals as goal
 
 pub returns-then-own-ge-FULL_WEIGHT : goal.returns-then-own-ge-FULL_WEIGHT
-returns-then-own-ge-FULL_WEIGHT c = let s = c in
-    (i_in (s.requires.filterable.small.at s.args.t) tt).eq ∙ full-stays months_of_year s.args.w.now s.args.x.now s.args.t c.if-own-ge-FULL_WEIGHT.true
+returns-then-own-ge-FULL_WEIGHT c = (i_in (c.requires.filterable.small.at c.args.t) tt).eq ∙ full-stays months_of_year c.args.w.now c.args.x.now c.args.t c.if-own-ge-FULL_WEIGHT.true
 
 pub returns-then-near-eq0 : goal.returns-then-near-eq0
-returns-then-near-eq0 c = let n = c in let s = n in
-    (i_in (s.requires.filterable.small.at s.args.t) tt).eq
-    ∙ alone_stays months_of_year s.args.w.now s.args.x.now s.args.t n.sum_of_neighbours-near.ensures c.if-near-eq0.true
+returns-then-near-eq0 c = (i_in (c.requires.filterable.small.at c.args.t) tt).eq
+    ∙ alone_stays months_of_year c.args.w.now c.args.x.now c.args.t c.sum_of_neighbours-near.ensures c.if-near-eq0.true
 
 pub weighted_mean-requires : goal.weighted_mean-requires
-weighted_mean-requires c = let n = c in let s = n in let m = s.args in let y = s.requires.filterable.small in (
-  n.if-own-ge-FULL_WEIGHT.false,
+weighted_mean-requires c = let m = c.args in let y = c.requires.filterable.small in (
+  c.if-own-ge-FULL_WEIGHT.false,
   i_within (i_in (y.at m.t) tt),
-  i_within (summed-read months_of_year m.w.now m.x.now m.t n.sum_of_neighbours-near.ensures y),
+  i_within (summed-read months_of_year m.w.now m.x.now m.t c.sum_of_neighbours-near.ensures y),
   omega (arith, c.if-near-eq0.false),
-  count_most months_of_year m.w.now m.x.now m.t n.sum_of_neighbours-near.ensures,
+  count_most months_of_year m.w.now m.x.now m.t c.sum_of_neighbours-near.ensures,
 )
 
 pub returns : goal.returns
-returns c = let i = c in let n = i in let s = n in
-    kept c.weighted_mean.type_inv c.weighted_mean.ensures
-    ∙ mean_held months_of_year s.args.w.now s.args.x.now s.args.t n.sum_of_neighbours-near.ensures s.requires.filterable.small n.if-own-ge-FULL_WEIGHT.false (omega (arith, i.if-near-eq0.false))
+returns c = kept c.weighted_mean.type_inv c.weighted_mean.ensures
+    ∙ mean_held months_of_year c.args.w.now c.args.x.now c.args.t c.sum_of_neighbours-near.ensures c.requires.filterable.small c.if-own-ge-FULL_WEIGHT.false (omega (arith, c.if-near-eq0.false))

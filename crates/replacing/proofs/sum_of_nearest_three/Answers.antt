@@ -11,17 +11,17 @@ nearer-p-requires c = (c.loop-count.invariant.earlier_side, c.loop-count.invaria
 
 pub returns-then-n-p : goal.returns-then-n-p
 unfolding three
-returns-then-n-p c = let r = c in choose_none r.loop-count.invariant (omega arith) r.nearer-p.ensures c.if-n-p.true
+returns-then-n-p c = choose_none c.loop-count.invariant (omega arith) c.nearer-p.ensures c.if-n-p.true
 
 pub loop-count-preserved-then-p-t : goal.loop-count-preserved-then-p-t
-loop-count-preserved-then-p-t c = let i = c in let r = i in let l = r in let y = l.requires.0.filterable.small in
-    choose_earlier l.loop-count.invariant (omega arith) r.nearer-p.ensures i.if-n-p.false c.if-p-t.true
-    (i_kept (choose_adds l.loop-count.invariant y r.nearer-p.result) tt).eq y c.back-a.ensures
+loop-count-preserved-then-p-t c = let y = c.requires.0.filterable.small in
+    choose_earlier c.loop-count.invariant (omega arith) c.nearer-p.ensures c.if-n-p.false c.if-p-t.true
+    (i_kept (choose_adds c.loop-count.invariant y c.nearer-p.result) tt).eq y c.back-a.ensures
 
 pub loop-count-preserved : goal.loop-count-preserved
-loop-count-preserved c = let i = c in let r = i in let l = r in let y = l.requires.0.filterable.small in
-    choose_later l.loop-count.invariant (omega arith) r.nearer-p.ensures i.if-n-p.false c.if-p-t.false
-    (i_kept (choose_adds l.loop-count.invariant y r.nearer-p.result) tt).eq y c.ahead-b.ensures
+loop-count-preserved c = let y = c.requires.0.filterable.small in
+    choose_later c.loop-count.invariant (omega arith) c.nearer-p.ensures c.if-n-p.false c.if-p-t.false
+    (i_kept (choose_adds c.loop-count.invariant y c.nearer-p.result) tt).eq y c.ahead-b.ensures
 
 pub returns : goal.returns
 unfolding three

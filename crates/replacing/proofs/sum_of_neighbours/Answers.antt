@@ -19,12 +19,10 @@ abbrev After-result-4-1 : Type 0
 After-result-4-1 = lts.After-t22 tie.the-claims reads.Pre reads.Post
 
 pub returns-then-w-c : goal.returns-then-w-c
-returns-then-w-c c = let e = c in
-    summed-as c.sum_of_nearest_three.ensures (three-by-earlier (omega arith) e.back-a.ensures e.back-c.ensures (omega (arith, c.if-w-c.true)))
+returns-then-w-c c = summed-as c.sum_of_nearest_three.ensures (three-by-earlier (omega arith) c.back-a.ensures c.back-c.ensures (omega (arith, c.if-w-c.true)))
 
 pub returns-then-w-d : goal.returns-then-w-d
-returns-then-w-d c = let f = c in
-    summed-as c.sum_of_nearest_three-then-w-d.ensures (three-by-later (omega arith) f.ahead-b.ensures f.ahead-d.ensures c.if-w-d.true)
+returns-then-w-d c = summed-as c.sum_of_nearest_three-then-w-d.ensures (three-by-later (omega arith) c.ahead-b.ensures c.ahead-d.ensures c.if-w-d.true)
 
 -- the nearer one on each side is a place
 earlier-inside : (i : Else-w-d) → let e = i in e.back-a.result < length e.args.w.now
@@ -41,13 +39,11 @@ sum_is c = let f = c in let e = f in
     four_read e.requires.filterable.small e.back-a.result e.back-c.result e.ahead-b.result f.ahead-d.result
 
 pub returns : goal.returns
-returns c = let i = c in let f = i in let e = f in
-    rw (i_kept (sum_is c.before) tt).eq
-    (four-summed (omega arith) e.back-a.ensures e.back-c.ensures f.if-w-c.false e.ahead-b.ensures f.ahead-d.ensures i.if-w-d.false)
+returns c = rw (i_kept (sum_is c.before) tt).eq
+    (four-summed (omega arith) c.back-a.ensures c.back-c.ensures c.if-w-c.false c.ahead-b.ensures c.ahead-d.ensures c.if-w-d.false)
 
 pub overflow_add-result-2 : goal.overflow_add-result-2
-overflow_add-result-2 c = let e = c in let s = e in
-    i_fits (three_read s.requires.filterable.small e.back-a.result e.back-c.result e.ahead-b.result) tt
+overflow_add-result-2 c = i_fits (three_read c.requires.filterable.small c.back-a.result c.back-c.result c.ahead-b.result) tt
 
 pub overflow_add-result-3 : goal.overflow_add-result-3
 overflow_add-result-3 c = i_fits (sum_is c.before) tt

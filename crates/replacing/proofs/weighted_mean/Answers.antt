@@ -48,5 +48,4 @@ pub to_grain-requires : goal.to_grain-requires
 to_grain-requires c = rounds (i_bound (i_kept (total_is c.before) tt) (total-within c.before)) (d-is c) (omega (arith, c.counted.ensures)) (omega arith) (lt_z_yes (lt→ltb 0 c.counted.result (omega (arith, c.counted.ensures, c.requires))))
 
 pub returns : goal.returns
-returns c = let k = c in
-    kept c.to_grain.type_inv c.to_grain.ensures ∙ ap₂ to_grain (i_kept (total_is k.before.before) tt).eq (ap nat_abs (d-is k.before).eq ∙ k.counted.ensures)
+returns c = kept c.to_grain.type_inv c.to_grain.ensures ∙ ap₂ to_grain (i_kept (total_is c.before.before) tt).eq (ap nat_abs (d-is c.before).eq ∙ c.counted.ensures)

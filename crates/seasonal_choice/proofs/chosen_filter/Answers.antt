@@ -8,12 +8,12 @@ use Rattle.seasonal_choice.proofs.chosen_filter.Goals as goal
 
 pub ask-requires : goal.ask-requires
 unfolding year_changes
-ask-requires c = let a = c in let s = a in let p = s.requires in record {
+ask-requires c = let p = c.requires in record {
   both = p.both;
   long = omega (arith, p.long);
-  i_is = a.changes-i.ensures.0;
-  s_is = c.changes-s.ensures.0 ∙ ap (λ (n : ℕ). changes s.args.seasonal.now 12 12 (n - 12)) (sym p.both.same);
-  i_most = a.changes-i.ensures.1;
+  i_is = c.changes-i.ensures.0;
+  s_is = c.changes-s.ensures.0 ∙ ap (λ (n : ℕ). changes c.args.seasonal.now 12 12 (n - 12)) (sym p.both.same);
+  i_most = c.changes-i.ensures.1;
   s_most = c.changes-s.ensures.1;
 }
 

@@ -9,20 +9,20 @@ pub loop-t-init : goal.loop-t-init
 loop-t-init c = (omega arith, c.requires.order, changes-none c.args.x.now c.args.span c.args.first, omega arith)
 
 pub change_into-sum-requires : goal.change_into-sum-requires
-change_into-sum-requires c = let s = c in let h = s.requires in (
+change_into-sum-requires c = let h = c.requires in (
   record { short = h.short; small = h.small; back = omega arith; order = omega (arith, h.back, h.order, h.inside); inside = omega arith },
   omega (arith, h.back, c.loop-t.invariant),
   omega (arith, h.inside),
 )
 
 pub loop-t-preserved : goal.loop-t-preserved
-loop-t-preserved c = let l = c in let a = l.args in (
-  omega (arith, l.loop-t.invariant),
+loop-t-preserved c = let a = c.args in (
+  omega (arith, c.loop-t.invariant),
   omega arith,
-  omega (arith, l.loop-t.invariant.2, c.change_into-sum.ensures, changes-more a.x.now a.span a.first l.loop-t.t l.loop-t.invariant.0),
-  omega (arith, l.loop-t.invariant, c.change_into-sum.ensures),
+  omega (arith, c.loop-t.invariant.2, c.change_into-sum.ensures, changes-more a.x.now a.span a.first c.loop-t.t c.loop-t.invariant.0),
+  omega (arith, c.loop-t.invariant, c.change_into-sum.ensures),
 )
 
 pub returns : goal.returns
-returns c = let l = c in let s = l in let e : l.loop-t.t ≡ s.args.hi = omega (arith, l.loop-t.invariant) in
-    (l.loop-t.invariant.2 ∙ ap (λ (t : ℕ). changes s.args.x.now s.args.span s.args.first (t - s.args.first)) e, omega (arith, l.loop-t.invariant, s.requires))
+returns c = let e : c.loop-t.t ≡ c.args.hi = omega (arith, c.loop-t.invariant) in
+    (c.loop-t.invariant.2 ∙ ap (λ (t : ℕ). changes c.args.x.now c.args.span c.args.first (t - c.args.first)) e, omega (arith, c.loop-t.invariant, c.requires))

@@ -11,11 +11,11 @@ pub minus_at-requires : goal.minus_at-requires
 minus_at-requires c = (c.requires.0, omega arith)
 
 pub loop-t-preserved : goal.loop-t-preserved
-loop-t-preserved c = let l = c in (omega arith, l.loop-t.invariant.1, filled_more l.loop-t.invariant.2 (omega arith) (omega arith) (kept c.minus_at.type_inv c.minus_at.ensures))
+loop-t-preserved c = (omega arith, c.loop-t.invariant.1, filled_more c.loop-t.invariant.2 (omega arith) (omega arith) (kept c.minus_at.type_inv c.minus_at.ensures))
 
 pub shape_of-out : goal.shape_of-out
 shape_of-out c = c.loop-t.invariant.2.long
 
 pub returns : goal.returns
 unfolding minus
-returns c = let l = c in filled-tab l.loop-t.invariant.2 (omega arith) l.requires.1
+returns c = filled-tab c.loop-t.invariant.2 (omega arith) c.requires.1

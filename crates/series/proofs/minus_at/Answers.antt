@@ -3,4 +3,4 @@ use Rattle.integers.proofs.Signed64.{i-, i_kept, i_in}
 use Rattle.series.proofs.minus_at.Goals as goal
 
 pub returns : goal.returns
-returns c = let s = c in (i_kept (i- (i_in (s.requires.0.left.at s.args.t) tt) (i_in (s.requires.0.right.at s.args.t) tt)) tt).eq
+returns c = (i_kept (i- (i_in (c.requires.0.left.at c.args.t) tt) (i_in (c.requires.0.right.at c.args.t) tt)) tt).eq

@@ -7,10 +7,10 @@ pub loop-i-init : goal.loop-i-init
 loop-i-init c = (omega arith, filled_none)
 
 pub loop-i-preserved : goal.loop-i-preserved
-loop-i-preserved c = let l = c in (omega arith, filled_more l.loop-i.invariant.1 (omega arith) (omega arith) refl)
+loop-i-preserved c = (omega arith, filled_more c.loop-i.invariant.1 (omega arith) (omega arith) refl)
 
 pub shape_of-s : goal.shape_of-s
 shape_of-s c = c.loop-i.invariant.1.long
 
 pub returns : goal.returns
-returns c = let l = c in filled_front l.loop-i.invariant.1 (omega arith) l.requires
+returns c = filled_front c.loop-i.invariant.1 (omega arith) c.requires

@@ -5,4 +5,4 @@ use Rattle.trend_length.proofs.trend_length.Goals as goal
 
 pub returns : goal.returns
 unfolding trend_length
-returns c = let d = c in let a = d in c.terms_for.ensures ∙ ap₂ terms_for a.month_changes.ensures.0 d.month_changes-2.ensures.0
+returns c = c.terms_for.ensures ∙ ap₂ terms_for c.month_changes.ensures.0 c.month_changes-2.ensures.0

@@ -6,28 +6,17 @@ use Rattle.desk_forms.proofs.parts.fill.Goals as goal
 
 pub get_figures-requires : goal.get_figures-requires
 get_figures-requires c =
-    let s = c in
-    let m = s in
-    let f = m in
-    let z = f.requires in
-    (rw (f.front_of-front.ensures.0, m.months_in-p.ensures, s.start_of-s.ensures) (figures_lie z.0), omega (arith, z.1))
+    let z = c.requires in
+    (rw (c.front_of-front.ensures.0, c.months_in-p.ensures, c.start_of-s.ensures) (figures_lie z.0), omega (arith, z.1))
 
 pub get_weights-requires : goal.get_weights-requires
 get_weights-requires c =
-    let s = c in
-    let m = s in
-    let f = m in
-    let z = f.requires in
-    (rw (f.front_of-front.ensures.0, m.months_in-p.ensures, s.start_of-s.ensures) (weights-lie z.0), omega (arith, z.2))
+    let z = c.requires in
+    (rw (c.front_of-front.ensures.0, c.months_in-p.ensures, c.start_of-s.ensures) (weights-lie z.0), omega (arith, z.2))
 
 pub returns : goal.returns
 returns c =
-    let w = c in
-    let g = w in
-    let s = g in
-    let m = s in
-    let f = m in
-    let z = f.requires.0 in (
-      g.get_figures.ensures ∙ rw (f.front_of-front.ensures.0, m.months_in-p.ensures, s.start_of-s.ensures, form_figures z),
-      w.get_weights.ensures ∙ rw (f.front_of-front.ensures.0, m.months_in-p.ensures, s.start_of-s.ensures, form-weights z),
+    let z = c.requires.0 in (
+      c.get_figures.ensures ∙ rw (c.front_of-front.ensures.0, c.months_in-p.ensures, c.start_of-s.ensures, form_figures z),
+      c.get_weights.ensures ∙ rw (c.front_of-front.ensures.0, c.months_in-p.ensures, c.start_of-s.ensures, form-weights z),
     )

@@ -9,6 +9,5 @@ use Rattle.desk_forms.proofs.parts.put_header.Goals as goal
 pub returns : goal.returns
 unfolding header bytes_of
 returns c =
-    let s = c in
-    let small : s.args.start % 256 ≡ s.args.start = omega arith in
+    let small : c.args.start % 256 ≡ c.args.start = omega arith in
     rw (c.put_number.ensures, small)

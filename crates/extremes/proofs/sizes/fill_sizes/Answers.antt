@@ -13,11 +13,11 @@ pub loop-t-init : goal.loop-t-init
 loop-t-init c = (omega arith, filled_none)
 
 pub size_of-requires : goal.size_of-requires
-size_of-requires c = let b = c in i_within (i_in (b.requires.0.at b.loop-t.t) tt)
+size_of-requires c = i_within (i_in (c.requires.0.at c.loop-t.t) tt)
 
 pub loop-t-preserved : goal.loop-t-preserved
-loop-t-preserved c = let b = c in let o = c.size_of in
-    (omega arith, filled_more b.loop-t.invariant.1 (omega arith) (omega arith) (kept o.type_inv o.ensures ∙ ap (λ (z : ℤ). pos (size_of z)) (i_in (b.requires.0.at b.loop-t.t) tt).eq))
+loop-t-preserved c = let o = c.size_of in
+    (omega arith, filled_more c.loop-t.invariant.1 (omega arith) (omega arith) (kept o.type_inv o.ensures ∙ ap (λ (z : ℤ). pos (size_of z)) (i_in (c.requires.0.at c.loop-t.t) tt).eq))
 
 pub shape_of-sizes : goal.shape_of-sizes
 shape_of-sizes c = c.loop-t.invariant.1.long

@@ -35,8 +35,8 @@ next c = let l = c.loop-t in let w = sizes_in c.args.sizes.now in
     ap₂ (λ (s a : ℕ). s + a * a) l.invariant.1 c.size_at-a.ensures.0 ∙ squares-next w l.t (omega (arith, length-sizes c.args.sizes.now))
 
 small : (c : After-size_at-a) → let l = c.loop-t in pos (l.sum + c.size_at-a.result * c.size_at-a.result) within most_months * (largest_size * largest_size)
-small c = let l = c.loop-t in let s = c in let n = length-sizes s.args.sizes.now in
-    by-abs (omega (arith, next c, squares-small (sizes_in s.args.sizes.now) (sizes-below s.requires.0.small) (omega (arith, n)) (l.t + 1) (omega (arith, n))))
+small c = let l = c.loop-t in let n = length-sizes c.args.sizes.now in
+    by-abs (omega (arith, next c, squares-small (sizes_in c.args.sizes.now) (sizes-below c.requires.0.small) (omega (arith, n)) (l.t + 1) (omega (arith, n))))
 
 pub loop-t-preserved : goal.loop-t-preserved
 loop-t-preserved c = (omega arith, next c, filled_more c.loop-t.invariant.2 (omega arith) (omega arith) ((i_in (small c) tt).eq ∙ ap pos (next c)))
@@ -46,8 +46,8 @@ shape_of-sums c = c.loop-t.invariant.2.long
 
 pub returns : goal.returns
 unfolding running_squares
-returns c = let s = c in let w = s.args.sizes.now in
-    filled-tab c.loop-t.invariant.2 (omega (arith, length-sizes w)) (s.requires.2 ∙ sym (length-sizes w)) ∙ sym (map-tab pos (length (sizes_in w)) (λ t. squares (months 0 (t + 1) (sizes_in w))))
+returns c = let w = c.args.sizes.now in
+    filled-tab c.loop-t.invariant.2 (omega (arith, length-sizes w)) (c.requires.2 ∙ sym (length-sizes w)) ∙ sym (map-tab pos (length (sizes_in w)) (λ t. squares (months 0 (t + 1) (sizes_in w))))
 
 pub overflow_add-sum : goal.overflow_add-sum
 overflow_add-sum c = omega (arith, small c)

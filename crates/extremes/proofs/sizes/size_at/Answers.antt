@@ -11,6 +11,6 @@ use Rattle.extremes.proofs.sizes.size_at.Goals as goal
 
 pub returns : goal.returns
 unfolding sizes_in
-returns c = let s = c in let x = get_or s.args.sizes.now s.args.t (pos 0) in let h = s.requires.1.small.at s.args.t in
+returns c = let x = get_or c.args.sizes.now c.args.t (pos 0) in let h = c.requires.1.small.at c.args.t in
     let e : nat_abs (to_z w64 (of_z w64 x)) ≡ nat_abs x = ap nat_abs (i_in h tt).eq in
-    (e ∙ sym (get_or-map nat_abs s.args.sizes.now s.args.t (pos 0)), omega (arith, e, h))
+    (e ∙ sym (get_or-map nat_abs c.args.sizes.now c.args.t (pos 0)), omega (arith, e, h))

@@ -16,7 +16,7 @@ returns-then-t-eq0 c = rw c.if-t-eq0.true
 
 pub returns : goal.returns
 unfolding sum_before
-returns c = let s = c in let x = get_or s.args.sums.now (s.args.t - 1) (pos 0) in
+returns c = let x = get_or c.args.sums.now (c.args.t - 1) (pos 0) in
     let read : nat_abs (to_z w64 (of_z w64 x)) ≡ nat_abs x = ap nat_abs (kept {z = x} c.result-1.given refl) in
-    let e : suc (s.args.t - 1) ≡ s.args.t = omega arith in
-    read ∙ sym (get_or-map nat_abs s.args.sums.now (s.args.t - 1) (pos 0)) ∙ ap (λ (t : ℕ). sum_before t s.args.sums.now) e
+    let e : suc (c.args.t - 1) ≡ c.args.t = omega arith in
+    read ∙ sym (get_or-map nat_abs c.args.sums.now (c.args.t - 1) (pos 0)) ∙ ap (λ (t : ℕ). sum_before t c.args.sums.now) e

@@ -34,7 +34,7 @@ pub size_at-a-requires : goal.size_at-a-requires
 size_at-a-requires c = (omega arith, c.requires.0.sizes)
 
 one : (c : After-size_at-a) → let l = c.loop-t in let a = c.size_at-a.result in (a * a ≤ l.sum) × (1 ≤ l.count)
-one c = let s = c in let d = one_dropped (sizes_in s.args.sizes.now) (inside s.before.before.before.before) c.loop-t.invariant (omega arith) c.size_at-a.ensures.0 in
+one c = let d = one_dropped (sizes_in c.args.sizes.now) (inside c.before.before.before.before) c.loop-t.invariant (omega arith) c.size_at-a.ensures.0 in
     (omega (arith, d.0), omega (arith, d.1))
 
 pub next_above-t-requires-in-loop-t : goal.next_above-t-requires-in-loop-t
@@ -44,8 +44,7 @@ pub loop-t-smaller : goal.loop-t-smaller
 loop-t-smaller c = omega (arith, c.next_above-t-in-loop-t.ensures.order)
 
 pub loop-t-preserved : goal.loop-t-preserved
-loop-t-preserved c = let b = c in let s = b in
-    dropping_next (sizes_in s.args.sizes.now) (inside s.before.before.before.before.before) b.loop-t.invariant (omega arith) b.size_at-a.ensures.0 c.next_above-t-in-loop-t.ensures
+loop-t-preserved c = dropping_next (sizes_in c.args.sizes.now) (inside c.before.before.before.before.before) c.loop-t.invariant (omega arith) c.size_at-a.ensures.0 c.next_above-t-in-loop-t.ensures
 
 done : (c : After-loop-t) → let s = c.args in let g = keep s.limit (months s.lo s.hi (sizes_in s.sizes.now)) in
     (c.loop-t.sum ≡ squares g) × (c.loop-t.count ≡ length g)

@@ -15,8 +15,7 @@ weight-requires c = (c.requires.2, c.size_at.ensures.1)
 
 pub loop-t-preserved : goal.loop-t-preserved
 unfolding weight_by
-loop-t-preserved c = let b = c in
-    (omega arith, omega arith, filled_more b.loop-t.invariant.2 (omega arith) (omega arith) (c.weight.ensures ∙ ap (weight b.args.spread) c.size_at.ensures.0))
+loop-t-preserved c = (omega arith, omega arith, filled_more c.loop-t.invariant.2 (omega arith) (omega arith) (c.weight.ensures ∙ ap (weight c.args.spread) c.size_at.ensures.0))
 
 pub shape_of-out : goal.shape_of-out
 shape_of-out c = c.loop-t.invariant.2.long

@@ -39,8 +39,7 @@ enough : (c : After-years-last) → (5 ≤ c.years-last.result) × (c.years-last
 enough c = let s = c.requires.0.calendar in omega (arith, c.years-last.ensures, years-some s.early s.late s.least, years-few s)
 
 pub loop-c-init : goal.loop-c-init
-loop-c-init c = let s = c in
-    let e = ap (λ (k : ℕ). k - 3) c.years-last.ensures in (omega arith, omega (arith, enough c.before), e, rw (served_first s.requires.0.calendar e) filled_none)
+loop-c-init c = let e = ap (λ (k : ℕ). k - 3) c.years-last.ensures in (omega arith, omega (arith, enough c.before), e, rw (served_first c.requires.0.calendar e) filled_none)
 
 -- a group in turn is one of year 2 to the last
 inside : (i : In-loop-c) → let l = i in let s = l.args in
@@ -48,37 +47,36 @@ inside : (i : In-loop-c) → let l = i in let s = l.args in
 inside i = let l = i in omega (arith, enough l.before.before, l.years-last.ensures, l.loop-c.invariant.0, i.loop-c-test)
 
 pub group_spread-spread-requires : goal.group_spread-spread-requires
-group_spread-spread-requires c = let s = c in let i = inside c in (s.requires.0, i.0, i.2)
+group_spread-spread-requires c = let i = inside c in (c.requires.0, i.0, i.2)
 
 pub served_from-lo-requires : goal.served_from-lo-requires
-served_from-lo-requires c = let i = c in (i.requires.0.calendar, omega (arith, inside i.before))
+served_from-lo-requires c = (c.requires.0.calendar, omega (arith, inside c.before))
 
 pub served_from-hi-requires : goal.served_from-hi-requires
-served_from-hi-requires c = let i = c in (i.requires.0.calendar, omega (arith, inside i.before.before))
+served_from-hi-requires c = (c.requires.0.calendar, omega (arith, inside c.before.before))
 
 pub fill_weights-requires : goal.fill_weights-requires
-fill_weights-requires c = let b = c in let i = inside b.before.before.before.before in let l = b in let s = l in
-    let o = served_order s.requires.0.calendar l.loop-c.invariant.2 l.loop-c.c in (
-      record {
-        order = omega (arith, o, b.served_from-lo.ensures, b.served_from-hi.ensures);
-        inside = omega (arith, o, b.served_from-hi.ensures);
-        most = s.requires.0.calendar.most;
-        sizes = s.requires.0.sizes;
-      },
-      l.loop-c.invariant.3.long ∙ s.requires.1,
-      omega (arith, b.group_spread-spread.ensures, second_most (held s.before.before.before.before.before.before.before.before) (long s.before.before.before.before.before.before.before.before) s.requires.0.calendar (sizes-below s.requires.0.sizes.small) l.loop-c.c),
-    )
+fill_weights-requires c = let i = inside c.before.before.before.before in let o = served_order c.requires.0.calendar c.loop-c.invariant.2 c.loop-c.c in (
+  record {
+    order = omega (arith, o, c.served_from-lo.ensures, c.served_from-hi.ensures);
+    inside = omega (arith, o, c.served_from-hi.ensures);
+    most = c.requires.0.calendar.most;
+    sizes = c.requires.0.sizes;
+  },
+  c.loop-c.invariant.3.long ∙ c.requires.1,
+  omega (arith, c.group_spread-spread.ensures, second_most (held c.before.before.before.before.before.before.before.before) (long c.before.before.before.before.before.before.before.before) c.requires.0.calendar (sizes-below c.requires.0.sizes.small) c.loop-c.c),
+)
 
 pub loop-c-smaller : goal.loop-c-smaller
 loop-c-smaller c = omega (arith, inside c.before.before.before.before.before.before.before.before)
 
 pub loop-c-preserved : goal.loop-c-preserved
-loop-c-preserved c = let b = c in let i = inside b.before.before.before.before.before.before.before.before in let l = b in let s = l in (
+loop-c-preserved c = let i = inside c.before.before.before.before.before.before.before.before in (
   omega (arith, i),
   omega (arith, i),
-  l.loop-c.invariant.2,
-  group-filled (held s.before.before.before.before.before.before.before.before.before.before.before.before) (long s.before.before.before.before.before.before.before.before.before.before.before.before) s.requires.0.calendar l.loop-c.invariant.2 l.loop-c.c i.0 i.1
-      b.group_spread-spread.ensures b.served_from-lo.ensures b.served_from-hi.ensures l.loop-c.invariant.3 c.fill_weights.ensures,
+  c.loop-c.invariant.2,
+  group-filled (held c.before.before.before.before.before.before.before.before.before.before.before.before) (long c.before.before.before.before.before.before.before.before.before.before.before.before) c.requires.0.calendar c.loop-c.invariant.2 c.loop-c.c i.0 i.1
+      c.group_spread-spread.ensures c.served_from-lo.ensures c.served_from-hi.ensures c.loop-c.invariant.3 c.fill_weights.ensures,
 )
 
 pub shape_of-out : goal.shape_of-out
@@ -86,10 +84,10 @@ shape_of-out c = c.loop-c.invariant.3.long
 
 pub returns : goal.returns
 unfolding weights_by
-returns c = let l = c in let s = l in let last = l.years-last.result - 3 in
-    let e : l.loop-c.c ≡ last + 1 = omega (arith, l.loop-c.invariant.1, c.loop-c-test) in
-    filled-tab l.loop-c.invariant.3
-    (ap (served_from s.args.start s.args.period (length s.args.sizes.now) last) e ∙ served_end s.requires.0.calendar l.loop-c.invariant.2 ∙ sym (long s.before.before.before.before)) (s.requires.1 ∙ sym (long s.before.before.before.before))
+returns c = let last = c.years-last.result - 3 in
+    let e : c.loop-c.c ≡ last + 1 = omega (arith, c.loop-c.invariant.1, c.loop-c-test) in
+    filled-tab c.loop-c.invariant.3
+    (ap (served_from c.args.start c.args.period (length c.args.sizes.now) last) e ∙ served_end c.requires.0.calendar c.loop-c.invariant.2 ∙ sym (long c.before.before.before.before)) (c.requires.1 ∙ sym (long c.before.before.before.before))
 
 pub overflow_sub-last : goal.overflow_sub-last
 overflow_sub-last c = omega (arith, enough c.before)
