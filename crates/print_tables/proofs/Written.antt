@@ -14,7 +14,6 @@ use Rattle.refusals.specs.Sheet.{Answer, success}
 use Rattle.refusals.proofs.InsideLaws.{start-inside, from-year-one}
 use Rattle.refusals.proofs.FirstLaws.{first-none}
 use Rattle.refusals.proofs.CheckLaws.{all_before, each_nowhere}
-use Rattle.tables.specs.Tables.{B17, C17}
 use Rattle.tables.specs.Weighings.{WeightsOfMonths}
 use Rattle.tables.proofs.Weighings.{no-weight-above-full}
 use Rattle.checks.specs.declared.Lengths.{Lengths}
@@ -24,8 +23,7 @@ use Rattle.desk_forms.specs.Header.{series}
 use Rattle.desk_forms.proofs.FileLaws.{four_and_six}
 use Rattle.desk_checks.proofs.CheckedLaws.{SeriesFits, fits_series}
 use Rattle.desk_file.proofs.Answers.{write_accepts}
-use Rattle.decompose.specs.declared.Decomposed.TheVariants.{Tables}
-use Rattle.decompose.specs.Promise.{Slices, lengths_of, answer, after, Promise}
+use Rattle.decompose.specs.Promise.{Slices, lengths_of, answer, after}
 use Rattle.print_tables.specs.Written.{Written, DecomposedThenWritten}
 
 -- weights of which none is above 1,000 pass row 10
