@@ -1,6 +1,6 @@
--- METHOD 7.10, 7.11 and 7.13: doubles in bytes, and the whole numbers that they are. What a double is comes from the kit's account of IEEE 754, lib.Ieee:
--- `nan` is no number, `inf s` an infinity, `fin s m e` the number m * 2 ^ e, below zero where s is true (negative zero: m is 0, s is true); 2 ^ e is the
--- fraction up e / down e. `binary64` is the format of 64 bits.
+-- METHOD 7.10, 7.11 and 7.13: doubles in bytes, and the whole numbers that they are. What a double is comes from the kit's account of IEEE 754,
+-- Rattle.std.specs.Float: `nan` is no number, `inf s` an infinity, `fin s m e` the number m * 2 ^ e, below zero where s is true (negative zero: m is 0, s is
+-- true); 2 ^ e is the fraction up e / down e. `binary64` is the format of 64 bits.
 use Rattle.std.specs.Prelude.{◌≡◌, ℕ, ◌*◌, ◌/◌, ◌%◌, Bool, true, false, cond, ◌&&◌, List, ℤ, pos, neg_ℤ, ◌==◌, from_bits, Float}
 use Rattle.std.specs.Float.{nan, inf, fin, binary64}
 use Rattle.std.specs.Float.Ieee.{up, down, of_int}

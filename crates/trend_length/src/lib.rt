@@ -17,6 +17,7 @@ fn month_changes(x: &[i64]) -> u64
 }
 
 // The terms for the sums I and C. Their sum is 0 where both are.
+#[tactic(auto, using(crate::proofs::Choosing::both_zero, crate::proofs::Choosing::smooth, crate::proofs::Choosing::between, crate::proofs::Choosing::rough))]
 fn terms_for(i: u64, c: u64) -> Terms
     requires { (i ≤ most_change) × (c ≤ most_change) }
     ensures { result ≡ terms_for i c }

@@ -8,6 +8,7 @@ use lib.ListN.{length}
 use mir.Syntax.{w64}
 use mir.Val.{to_z, of_z}
 use mir.Facts.{to_z-of_z}
+use Rattle.std.proofs.Common.{rules}
 use Rattle.decimals.specs.Decimal.{minus_sign, digits, signed_digits}
 use Rattle.decimals.proofs.StoringLaws.{stored-then, stored-eq, stored-within}
 use Rattle.decimals.proofs.DecimalLaws.{below-zero, not-below-zero}
@@ -24,10 +25,10 @@ Else-x-lt0 = lts.Else1 tie.the-claims reads.Pre reads.Post
 
 -- what is stored where x is negative, and where it is not, s being its size
 minus : (c : Then-x-lt0) {s : ℕ} → s ≡ nat_abs (to_z w64 (of_z w64 c.args.x)) → minus_sign ∷ digits s ≡ signed_digits c.args.x
-minus c e = below-zero e (to_z-of_z c.ranges.x) c.if-x-lt0.true
+minus c e = below-zero e (to_z-of_z c.ranges.x) (search rules)
 
 plain : (c : Else-x-lt0) {s : ℕ} → s ≡ nat_abs (to_z w64 (of_z w64 c.args.x)) → digits s ≡ signed_digits c.args.x
-plain c e = not-below-zero e (to_z-of_z c.ranges.x) c.if-x-lt0.false
+plain c e = not-below-zero e (to_z-of_z c.ranges.x) (search rules)
 
 pub put_byte-next-requires : goal.put_byte-next-requires
 put_byte-next-requires c = omega (arith, ap length (minus c.before refl))

@@ -9,7 +9,7 @@ pub returns-then-tries-eq0 : goal.returns-then-tries-eq0
 returns-then-tries-eq0 t c = given_up c.requires c.decide-decision.ensures c.in_default.is c.if-tries-eq0.true
 
 pub overflow_sub-i : goal.overflow_sub-i
-overflow_sub-i t c = (less_i c.requires c.if-tries-eq0.false c.changes-last_i.ensures.0).0
+overflow_sub-i t c = omega (arith, (less_i c.requires c.if-tries-eq0.false c.changes-last_i.ensures.0).0)
 
 pub overflow_sub-s : goal.overflow_sub-s
 overflow_sub-s t c = (less_s c.requires c.if-tries-eq0.false c.changes-last_s.ensures.0).0

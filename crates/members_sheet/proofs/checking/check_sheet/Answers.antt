@@ -56,7 +56,7 @@ returns-then-sheet-count c =
     record {
       at = 4;
       before = before4 b c.args.room c.if-sheet-lt-SIZES.false (fits b e c.in_default.ensures);
-      here = row-applies 9 (ap not (ne_eqb (length b) (sheet_length (count_in b)) (λ l. c.if-sheet-count.true (omega (arith, l, counted b e)))));
+      here = row-applies 9 (ap not (ne_eqb (length b) (sheet_length (count_in b)) (λ l. omega (arith, l, counted b e))));
     }
 
 pub returns-then-room-count : goal.returns-then-room-count
