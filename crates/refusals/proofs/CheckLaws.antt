@@ -7,9 +7,8 @@ use mathlib.Core.List.{List, [], ◌∷◌, ◌++◌}
 use native.Mathlib.Omega.{arith}
 use borrow.Author.Tests.{le-ltb}
 use lib.ListN.{length, drop}
+use Rattle.std.specs.Prelude.{Option, Some, None}
 use Rattle.refusals.specs.declared.Refusal.{Refusal}
-use Rattle.refusals.specs.declared.Found.{Found}
-use Rattle.refusals.specs.declared.Found.TheVariants.{At, Nowhere}
 use Rattle.refusals.specs.Sheet.{row, Answer, success, refusal, refusal_of}
 use Rattle.refusals.specs.Checks.{Check, check_row, check_each, first_to_apply}
 use Rattle.refusals.specs.Promises.{Before, CheckAt, refusing, Stopped, span_checks, SpanFits}
@@ -34,15 +33,15 @@ one_more (k ∷ ks) (suc i) h t = (h.0, one_more ks i h.1 t)
 pub row-applies : (k : ℕ) {b : Bool} → b ≡ true → check_row k b ≡ refusing k 0
 row-applies k e = ap (check_row k) e
 
-pub each_applies : (k : ℕ) {t : ℕ} {f : Found} → f ≡ At t → check_each k f ≡ refusing k t
+pub each_applies : (k : ℕ) {t : ℕ} {f : Option ℕ} → f ≡ Some t → check_each k f ≡ refusing k t
 each_applies k e = ap (check_each k) e
 
-pub each_passed : (k : ℕ) {f : Found} → f ≡ Nowhere → (check_each k f).applies ≡ false
-each_passed k e = ap (λ (f : Found). (check_each k f).applies) e
+pub each_passed : (k : ℕ) {f : Option ℕ} → f ≡ None → (check_each k f).applies ≡ false
+each_passed k e = ap (λ (f : Option ℕ). (check_each k f).applies) e
 
-pub each_nowhere : (k : ℕ) (f : Found) → (check_each k f).applies ≡ false → f ≡ Nowhere
-each_nowhere k (At t) e = let z : ◌≡◌ {A = ℕ} 0 1 = cc in absurd (omega arith)
-each_nowhere k Nowhere e = refl
+pub each_nowhere : (k : ℕ) (f : Option ℕ) → (check_each k f).applies ≡ false → f ≡ None
+each_nowhere k (Some t) e = let z : ◌≡◌ {A = ℕ} 0 1 = cc in absurd (omega arith)
+each_nowhere k None e = refl
 
 -- ---- the answer
 pub no-success : {A : Type 0} {k p : ℕ} {a : A} → ◌≡◌ {A = Answer A} (refusal k p) (success a) → ⊥

@@ -1,9 +1,7 @@
 -- What the checks find, for the crates above: a program that has passed i checks of a list keeps `Before i`, and where it refuses, `Stopped`. Nothing
 -- here is promised to a caller of the desk.
-use Rattle.std.specs.Prelude.{ℕ, zero, suc, ◌≤◌, ◌≡◌, true, false, List, [], ◌∷◌}
+use Rattle.std.specs.Prelude.{ℕ, zero, suc, ◌≤◌, ◌≡◌, true, false, List, [], ◌∷◌, Result, Ok, Err}
 use Rattle.refusals.specs.declared.Refusal.{Refusal}
-use Rattle.refusals.specs.declared.Verdict.{Verdict}
-use Rattle.refusals.specs.declared.Verdict.TheVariants.{Fine, Refused}
 use Rattle.refusals.specs.Limits.{least_months, most_months}
 use Rattle.refusals.specs.Inside.{start_inside}
 use Rattle.refusals.specs.Sheet.{row}
@@ -40,6 +38,6 @@ pub record SpanFits (n start : ℕ) : Type 0 where
   pub most : n ≤ most_months
   pub inside : start_inside start ≡ true
 
-abbrev pub Spans : Verdict → ℕ → ℕ → Type 0
-Spans Fine n start = SpanFits n start
-Spans (Refused q) n start = Stopped q (span_checks n start)
+abbrev pub Spans : Result Unit Refusal → ℕ → ℕ → Type 0
+Spans (Ok done) n start = SpanFits n start
+Spans (Err q) n start = Stopped q (span_checks n start)

@@ -31,7 +31,7 @@ pub const EARLIEST_YEAR: usize = 1;
 pub const LATEST_YEAR: usize = 9999;
 
 // The rows of the sheet, in its order; a row with a place carries it. The number 6 is retired.
-#[derive(Clone, Copy)]
+#[derive(Clone, Copy, PartialEq, Eq, Debug)]
 pub enum Refusal {
     TooShort,
     TooLong,
@@ -89,33 +89,23 @@ pub fn place(r: Refusal) -> usize
 fn start_outside(start: u8) -> bool
     ensures { result ≡ not (start_inside start) }
 {
-    if start < 1 {
-        return true;
-    }
-    MONTHS_OF_YEAR < start as usize
-}
-
-// No check applies, or the refusal of the first that does.
-#[derive(Clone, Copy)]
-pub enum Verdict {
-    Fine,
-    Refused(Refusal),
+    start < 1 || MONTHS_OF_YEAR < start as usize
 }
 
 // Rows 1 to 3: n months from a start month.
-pub fn span(n: usize, start: u8) -> Verdict
+pub fn span(n: usize, start: u8) -> Result<(), Refusal>
     ensures { Spans result n start }
 {
     if n < LEAST_MONTHS {
-        return Verdict::Refused(Refusal::TooShort);
+        return Err(Refusal::TooShort);
     }
     if MOST_MONTHS < n {
-        return Verdict::Refused(Refusal::TooLong);
+        return Err(Refusal::TooLong);
     }
     if start_outside(start) {
-        return Verdict::Refused(Refusal::BadStart);
+        return Err(Refusal::BadStart);
     }
-    Verdict::Fine
+    Ok(())
 }
 
 // Row 11: the first year, or the year of the last of n months, outside 1 to 9999.
@@ -123,20 +113,15 @@ pub fn years_outside(year: u16, start: u8, n: usize) -> bool
     requires { (1 ≤ start) × (1 ≤ n) × (n ≤ most_months) }
     ensures { result ≡ not (years_inside year start n) }
 {
-    if (year as usize) < EARLIEST_YEAR {
-        return true;
-    }
-    LATEST_YEAR < year as usize + (start as usize - 1 + n - 1) / MONTHS_OF_YEAR
+    (year as usize) < EARLIEST_YEAR
+        || LATEST_YEAR < year as usize + (start as usize - 1 + n - 1) / MONTHS_OF_YEAR
 }
 
 // Row 5: a figure below -200,000 or above 200,000.
 pub fn figure_outside(figure: i32) -> bool
     ensures { result ≡ not (figure_inside figure) }
 {
-    if figure < -LARGEST_FIGURE {
-        return true;
-    }
-    LARGEST_FIGURE < figure
+    figure < -LARGEST_FIGURE || LARGEST_FIGURE < figure
 }
 
 // Row 10: a weight above 1,000.
@@ -146,37 +131,16 @@ pub fn weight_above(weight: u16) -> bool
     FULL_WEIGHT < weight
 }
 
-// The first bad element: its place, or that there is none. The loops count the elements that are left.
-#[derive(Clone, Copy)]
-pub enum Found {
-    At(usize),
-    Nowhere,
-}
-
-pub fn first_outside(figures: &[i32]) -> Found
+// Row 5: the place of the first figure outside its limits, if there is one.
+pub fn first_outside(figures: &[i32]) -> Option<usize>
     ensures { result ≡ first_outside figures.now }
 {
-    let mut left = figures.len();
-    while 0 < left {
-        let t = figures.len() - left;
-        if figure_outside(figures[t]) {
-            return Found::At(t);
-        }
-        left -= 1;
-    }
-    Found::Nowhere
+    figures.iter().position(|figure| figure_outside(*figure))
 }
 
-pub fn first_above(weights: &[u16]) -> Found
+// Row 10: the place of the first weight above 1,000, if there is one.
+pub fn first_above(weights: &[u16]) -> Option<usize>
     ensures { result ≡ first_above weights.now }
 {
-    let mut left = weights.len();
-    while 0 < left {
-        let t = weights.len() - left;
-        if weight_above(weights[t]) {
-            return Found::At(t);
-        }
-        left -= 1;
-    }
-    Found::Nowhere
+    weights.iter().position(|weight| weight_above(*weight))
 }

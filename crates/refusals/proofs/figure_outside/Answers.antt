@@ -1,6 +1,6 @@
 -- `refusals::figure_outside` meets its contract: below the least figure, or else above the largest.
 use Prim.Native.Nat.{suc}
-use mathlib.Core.Path.{◌≡◌, sym, ap}
+use mathlib.Core.Path.{◌≡◌, sym, ap, ◌∙◌}
 use mathlib.Core.Bool.{true, false, not}
 use native.Mathlib.Omega.{arith}
 use borrow.Author.Tests.{le-leb, lt-leb, ltb-true, ltb-false}
@@ -34,7 +34,7 @@ same : (s : Start) → to_z w32 (of_z w32 s.args.figure) ≡ s.args.figure
 same s = to_z-of_z s.ranges.figure
 
 pub returns-then-figure : goal.returns-then-figure
-returns-then-figure c = below-least c.args.figure (rw (same c.before) at c.if-figure.true)
+returns-then-figure c = c.if-figure.true ∙ below-least c.args.figure (rw (same c.before) at c.if-figure.true)
 
-pub returns : goal.returns
-returns c = rw (same c.before) (not-below c.args.figure (rw (same c.before) at c.if-figure.false))
+pub returns-else-figure : goal.returns-else-figure
+returns-else-figure c = rw (same c.before) (not-below c.args.figure (rw (same c.before) at c.if-figure.false))

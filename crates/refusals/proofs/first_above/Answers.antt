@@ -1,22 +1,12 @@
-use mathlib.Core.Path.{refl}
-use native.Mathlib.Omega.{arith}
+-- `refusals::first_above` meets its contract: the library's `position` is the first that fails.
+use Rattle.std.proofs.Common.{rules, tests, not, ◌∙◌}
+use Rattle.std.proofs.lemmas.Iterator.{YieldsList-from_slice}
+use Rattle.std.proofs.lemmas.Iterator.Search.{position_from_yields_List}
 use Rattle.refusals.specs.First.{first_above}
-use Rattle.refusals.proofs.FirstLaws.{none_yet, one-passed, first_here, first-none}
+use Rattle.refusals.specs.Inside.{weight_inside}
+use Rattle.refusals.proofs.FirstLaws.{first-position}
 use Rattle.refusals.proofs.first_above.Goals as goal
-
-pub loop-left-init : goal.loop-left-init
-loop-left-init c = (omega arith, none_yet (omega arith))
-
-pub weight_above-requires : goal.weight_above-requires
-weight_above-requires c = tt
-
-pub returns-then-weight_above : goal.returns-then-weight_above
-unfolding first_above
-returns-then-weight_above c = first_here c.loop-left.invariant.1 (omega arith) refl c.weight_above.ensures c.if-weight_above.true
-
-pub loop-left-preserved : goal.loop-left-preserved
-loop-left-preserved c = (omega arith, one-passed c.loop-left.invariant.1 refl c.weight_above.ensures c.if-weight_above.false (omega arith))
 
 pub returns : goal.returns
 unfolding first_above
-returns c = first-none c.loop-left.invariant.1 (omega arith)
+returns c = position_from_yields_List (λ x. not (weight_inside x)) _ _ _ c.position.ensures.ran (YieldsList-from_slice _ c.iter.ensures.rest) (λ x b q k. search (rules, tests)) ∙ first-position weight_inside c.args.weights.now
