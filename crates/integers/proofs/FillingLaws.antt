@@ -92,12 +92,6 @@ module _ {A : Type 0} {d : A} {f : ℕ → A} where
   pub filled-tab : {t n : ℕ} {old new : List A} → Filled d f 0 t old new → t ≡ n → length old ≡ n → new ≡ tab n f
   filled-tab {t} {n} {old} {new} p e l = tab-same d n f new (p.long ∙ l) (λ i h. p.here i (omega arith) (omega arith))
 
-  -- the same in three stretches, by functions that agree there
-  pub filled_three : {g h j : ℕ → A} {p q n : ℕ} {old a b c : List A} → Filled d g 0 p old a → Filled d h p q a b → Filled d j q n b c → p ≤ q → q ≤ n → length old ≡ n
-      → ((k : ℕ) → k < p → g k ≡ f k) → ((k : ℕ) → p ≤ k → k < q → h k ≡ f k) → ((k : ℕ) → q ≤ k → k < n → j k ≡ f k) → c ≡ tab n f
-  filled_three u v w l m e x y z =
-      filled-tab (filled_on (filled_on (filled_on filled_none u (omega arith) (omega arith) (λ k i. x k)) v (omega arith) l y) w (omega arith) m z) refl e
-
   -- its front is filled, and its tail stays
   pub filled_front : {t n : ℕ} {old new : List A} → Filled d f 0 t old new → t ≡ n → n ≤ length old → new ≡ tab n f ++ drop n old
   filled_front {t} {n} {old} {new} p e l = ext_get_or d new (tab n f ++ drop n old) same (λ i h. at i h (dec_le n i))

@@ -11,9 +11,6 @@ module _ {A : Type 0} (k : ℕ) (l : List A) (h : k ≤ length l) where
   pub front_long : k ≡ length (take k l)
   front_long = sym (length-take-le k l h)
 
-  pub front_more : (d n : ℕ) → k + d ≡ n → length (take k l) + d ≡ n
-  front_more d n e = rw (length-take-le k l h) e
-
   pub front_back : (m : List A) → length m ≡ length (take k l) → take k (m ++ drop k l) ≡ m
   front_back m e = take_at m (drop k l) k (e ∙ length-take-le k l h)
 

@@ -3,9 +3,9 @@ use mathlib.Core.Logic.{◌↔◌}
 use Prim.Native.Nat.{ℕ, ◌+◌, ◌<◌, ◌≤◌}
 use native.Mathlib.Omega.{arith}
 use lib.Dec.{ltb→lt, lt→ltb, leb→le, le→leb}
-use lib.IntN.{ℤ, pos, negsuc}
+use lib.IntN.{pos, negsuc}
 use lib.Signed.{◌≤ℤ◌, ◌<ℤ◌, le_z_yes, lt_z_yes}
-use Rattle.integers.proofs.Differences.{pp, nn, rep, ◌⊖◌, ⊖-ind}
+use Rattle.integers.proofs.Differences.{◌⊖◌, ⊖-ind}
 use Rattle.integers.proofs.SizeLaws.{absℤ}
 
 pub ≤ℤ-iff : (a b c d : ℕ) → (a ⊖ b ≤ℤ c ⊖ d) ↔ (a + d ≤ c + b)
@@ -35,10 +35,3 @@ pub <ℤ-iff : (a b c d : ℕ) → (a ⊖ b <ℤ c ⊖ d) ↔ (a + d < c + b)
         (λ k e. ⊖-ind (λ z. negsuc k <ℤ z) c d (λ l u. lt_z_yes tt) (λ l u. lt_z_yes (lt→ltb l k (omega arith))))
 
 pub ruleset ordℤ = (absℤ, ≤ℤ-iff, <ℤ-iff)
-
--- a hypothesis, for `omega`'s list
-pub ≤-parts : (x y : ℤ) → x ≤ℤ y → pp x + nn y ≤ pp y + nn x
-≤-parts x y h = simp ordℤ at (rw (rep x, rep y) at h)
-
-pub <-parts : (x y : ℤ) → x <ℤ y → pp x + nn y < pp y + nn x
-<-parts x y h = simp ordℤ at (rw (rep x, rep y) at h)

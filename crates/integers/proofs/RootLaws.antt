@@ -1,5 +1,5 @@
 -- `root` is the root of METHOD 5.5, and no other number is.
-use Prim.Native.Nat.{ℕ, zero, suc, ◌+◌, ◌*◌, ◌-◌, ◌/◌, ◌^◌, ◌≤◌, ◌<◌}
+use Prim.Native.Nat.{ℕ, zero, suc, ◌+◌, ◌*◌, ◌-◌, ◌/◌, ◌≤◌, ◌<◌}
 use mathlib.Core.Path.{◌≡◌, refl}
 use mathlib.Core.Bool.{Bool, true, false, cond}
 use native.Mathlib.Nat.{mul-le-mul, le_antisymm, div-lt_iff_lt-mul}
@@ -7,7 +7,6 @@ use native.Mathlib.Decide.{dec_le}
 use native.Mathlib.Omega.{arith}
 use borrow.Author.Tests.{leb-true, leb-false, eqb-true, eqb-false}
 use lib.Dec.{leb, eqb}
-use Rattle.integers.specs.Promises.{largest_candidate}
 use Rattle.integers.specs.Root.{IsRoot, or_one_more, root_in, root}
 
 -- the square of r is not above x, that of the next number is
@@ -65,19 +64,3 @@ mean_above x r q n h k = omega (arith, four_products (q + 1) r, mul-le-mul k k)
 
 pub narrowed : (x r : ℕ) → 0 < r → x < ((r + x / r) / 2 + 1) * ((r + x / r) / 2 + 1)
 narrowed x r l = mean_above x r (x / r) ((r + x / r) / 2) (quotient_above x r l) (omega arith)
-
--- the quotient of a candidate above the root is below it, and so is the mean
-pub quotient_below : (x r : ℕ) → 0 < r → x < r * r → x / r < r
-quotient_below x r l h = (div-lt_iff_lt-mul {k = r} l).1 h
-
-pub mean_below : (x r : ℕ) → 0 < r → x < r * r → (r + x / r) / 2 < r
-mean_below x r l h = omega (arith, quotient_below x r l h)
-
--- its square fits in 64 bits
-pub mean_fits : (x r : ℕ) → 0 < r → r ≤ largest_candidate → x < r * r → (r + x / r) / 2 * ((r + x / r) / 2) < 2 ^ 64
-mean_fits x r l m h = let q : (r + x / r) / 2 ≤ 4294967295 = omega (arith, mean_below x r l h) in omega (arith, mul-le-mul q q)
-
--- where its square is above x, it is a candidate again, and no zero
-pub mean_some : (x n : ℕ) → x < n * n → 1 ≤ n
-mean_some x zero h = omega arith
-mean_some x (suc n) h = omega arith

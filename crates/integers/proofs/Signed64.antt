@@ -2,7 +2,7 @@
 -- `Reads t z B`: the term t of the need is the number z, and z is within B. A proof puts these together as the code puts the operations together.
 use mathlib.Core.Path.{◌≡◌, refl, sym, ap₂, ◌∙◌, subst}
 use Prim.Native.Nat.{ℕ, suc, ◌+◌, ◌*◌, ◌^◌, ◌<◌, ◌≤◌}
-use native.Mathlib.Nat.{lt_of_le_of_lt, le_trans, div-le_self}
+use native.Mathlib.Nat.{le_trans, div-le_self}
 use native.Mathlib.Omega.{arith}
 use lib.Dec.{T, ltb, ltb→lt}
 use lib.IntN.{ℤ, pos, negsuc, nat_abs, ◌+ℤ◌, ◌-ℤ◌, ◌*ℤ◌}
@@ -55,15 +55,6 @@ i_fits {B = B} h k = subst (SFits w64) (sym h.eq) (sfits64 h.bound (ltb→lt B (
 pub i_kept : {t z : ℤ} {B : ℕ} → Reads t z B → Room B → Reads (to_z w64 (of_z w64 t)) z B
 i_kept h k = record { eq = to_z-of_z (i_fits h k) ∙ h.eq; bound = h.bound }
 
--- a divisor
-of_z-pos : (z : ℤ) → 0 < nat_abs z → nat_abs z < 2 ^ 63 → 0 < of_z w64 z
-of_z-pos (pos n) h k = h
-of_z-pos (negsuc n) h k = omega arith
-
-pub i-divisor : {a b x y : ℤ} {A B : ℕ} → Reads a x A → Reads b y B → 0 < nat_abs y → Room A → Room B → (0 < of_z w64 b) × SFits w64 (quot_z a (to_z w64 (of_z w64 b)))
-i-divisor {a} {b} {x} {y} {A} {B} h k p la lb =
-    (rw k.eq (of_z-pos y p (lt_of_le_of_lt k.bound.abs (ltb→lt B (2 ^ 63) lb))), i_fits (i/ h (i_kept k lb)) la)
-
 -- a positive number has a size
 pub pos-abs : (d : ℤ) → pos 0 <ℤ d → 0 < nat_abs d
 pos-abs (pos n) h = ltb→lt 0 n h.lt
@@ -110,9 +101,6 @@ i_positive {d} f h p = i≡ (i_arg f h) (same d p)
 -- a number that is not negative, cast to an unsigned one
 pub unsigned : {t : ℤ} {n : ℕ} → t ≡ pos n → n < 2 ^ 64 → T (non_neg t) × Fits w64 (nat_abs t)
 unsigned e h = rw e (tt, record { fits = h })
-
-pub i_unsigned : {t : ℤ} {n B : ℕ} → Reads t (pos n) B → Room B → T (non_neg t) × Fits w64 (nat_abs t)
-i_unsigned {n = n} {B = B} h k = unsigned h.eq (omega (arith, h.bound.abs, ltb→lt B (2 ^ 63) k))
 
 -- what a call returned and a local keeps, read again
 pub kept : {z v : ℤ} → mag z < 2 ^ 63 → z ≡ v → to_z w64 (of_z w64 z) ≡ v

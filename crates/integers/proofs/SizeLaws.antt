@@ -5,7 +5,7 @@ use Prim.Native.Nat.{ℕ, zero, suc, ◌+◌, ◌*◌, ◌-◌, ◌^◌, ◌<◌
 use native.Mathlib.Nat.{mul-le-mul, lt_of_le_of_lt}
 use native.Mathlib.Omega.{arith}
 use lib.IntN.{ℤ, pos, negsuc, neg_ℤ, nat_abs, ◌+ℤ◌, ◌-ℤ◌, ◌*ℤ◌}
-use lib.Signed.{mag}
+use Rattle.std.proofs.lemmas.Int.{fits_signed_from_abs}
 use mir.Syntax.{w32, w64}
 use mir.Val.{SFits}
 use Rattle.integers.specs.Sizes.{◌within◌}
@@ -49,15 +49,9 @@ abs-mul (negsuc a) (negsuc b) = refl
 pub abs-⊖ : (a b : ℕ) → nat_abs (a ⊖ b) ≡ (a - b) + (b - a)
 abs-⊖ a b = ⊖-ind (λ z. nat_abs z ≡ (a - b) + (b - a)) a b (λ k e. omega arith) (λ k e. omega arith)
 
-pub abs-tri : (a b c : ℤ) → nat_abs (a -ℤ c) ≤ nat_abs (a -ℤ b) + nat_abs (b -ℤ c)
-abs-tri a b c = rw (rep a, rep b, rep c) (simp (ringℤ, abs-⊖) (omega arith))
-
 -- ---- bounds
 pub w_lit : (n : ℕ) → pos n within n
 w_lit n = omega arith
-
-pub w-neg : {a : ℤ} {A : ℕ} → a within A → neg_ℤ a within A
-w-neg {a} {A} h = omega (arith, abs_neg a)
 
 pub w+ : {a b : ℤ} {A B : ℕ} → a within A → b within B → a +ℤ b within A + B
 w+ {a} {b} {A} {B} h k = omega (arith, abs-add a b)
@@ -68,27 +62,17 @@ w- {a} {b} {A} {B} h k = omega (arith, abs-sub a b)
 pub w* : {a b : ℤ} {A B : ℕ} → a within A → b within B → a *ℤ b within A * B
 w* {a} {b} {A} {B} h k = record { abs = rw abs-mul (mul-le-mul h.abs k.abs) }
 
-pub w_tri : (a b c : ℤ) {B C : ℕ} → a -ℤ b within B → b -ℤ c within C → a -ℤ c within B + C
-w_tri a b c h k = omega (arith, abs-tri a b c)
-
 pub w≤ : {a : ℤ} {A B : ℕ} → a within A → A ≤ B → a within B
 w≤ h k = omega arith
 
 -- a number within the bound fits, in 64 bits and in 32
-fits-abs : (z : ℤ) (b : ℕ) → nat_abs z < b → mag z < b
-fits-abs (pos n) b h = h
-fits-abs (negsuc n) b h = omega arith
-
 pub sfits64 : {z : ℤ} {B : ℕ} → z within B → B < 2 ^ 63 → SFits w64 z
-sfits64 {z} h k = record { sfits = fits-abs z (2 ^ 63) (lt_of_le_of_lt h.abs k) }
+sfits64 {z} h k = fits_signed_from_abs w64 z (lt_of_le_of_lt h.abs k)
 
 pub sfits32 : {z : ℤ} {B : ℕ} → z within B → B < 2 ^ 31 → SFits w32 z
-sfits32 {z} h k = record { sfits = fits-abs z (2 ^ 31) (lt_of_le_of_lt h.abs k) }
+sfits32 {z} h k = fits_signed_from_abs w32 z (lt_of_le_of_lt h.abs k)
 
--- a bound of a number, or of a difference, as orders of its parts, for `omega`'s list
-pub w_parts : (z : ℤ) {e : ℕ} → z within e → (pp z ≤ nn z + e) × (nn z ≤ pp z + e)
-w_parts z h = omega (arith, simp absℤ at (rw (rep z) at h.abs))
-
+-- a bound of a difference, as orders of its parts, for `omega`'s list
 pub near : (a b : ℤ) {e : ℕ} → a -ℤ b within e → (pp a + nn b ≤ nn a + pp b + e) × (nn a + pp b ≤ pp a + nn b + e)
 near a b h = simp absℤ at (rw (rep a, rep b) at h.abs)
 

@@ -10,6 +10,7 @@ ghost use Rattle.integers.specs.Promises.{largest_numerator, largest_candidate, 
 const PAIRS: i64 = 2_000_000_000_000;
 
 // Twice x and d more, away from zero.
+#[tactic(auto, unfolding(crate::specs::Promises::farther))]
 fn farther(x: i64, d: i64) -> i64
     requires { Rounds x d }
     ensures { result ≡ farther x d }
@@ -18,6 +19,7 @@ fn farther(x: i64, d: i64) -> i64
 }
 
 // n / d to the nearest whole number, a half up: for the quotient of a weight, and for whole units, whose sizes are rounded (METHOD 1.4).
+#[tactic(auto, unfolding(crate::specs::Rounding::half_up))]
 pub fn half_up(n: u64, d: u64) -> u64
     requires { (0 < d) × (n ≤ largest_numerator) × (d ≤ largest_numerator) }
     ensures { result ≡ half_up n d }
@@ -45,13 +47,14 @@ fn half(n: u64) -> u64
 fn odd(rest: u64, last: u64) -> i64
     ensures { result ≡ cond (leb rest last) (pos 1) (pos 0) }
 {
-    (rest <= last) as i64
+    i64::from(rest <= last)
 }
 
 // x / d to the nearest grain, a half to the even one (METHOD 1.3), by pairs of grains: an odd one and the even one after it. The odd grain has the
 // numerators from `before` before it to `after` after it, on both sides the most that are fewer than half of d; the even one has the others, halves
 // among them. A pair begins with the first numerator of its odd grain. x is raised by PAIRS pairs to zero or above, where division cuts downward. (The
-// quotient stands before `odd`: else the compiler makes a branch here too.)
+// quotient stands before `odd`: else the compiler makes a branch here too. `as` stays: no number here is below zero, and `try_from` would make of
+// that a test and an error for nothing.)
 pub fn to_grain(x: i64, d: i64) -> i64
     requires { Rounds x d }
     ensures { result ≡ to_grain x (nat_abs d) }
@@ -69,18 +72,18 @@ pub fn to_grain(x: i64, d: i64) -> i64
 pub fn size(x: i64) -> u64
     ensures { result ≡ nat_abs x }
 {
-    if x < 0 { (-1 - x) as u64 + 1 } else { x as u64 }
+    x.unsigned_abs()
 }
 
 // A power of two whose square is above x: its exponent is half the number of x's bits, rounded up.
 fn above(x: u64) -> u64
     ensures { (x < result * result) × (1 ≤ result) × (result ≤ largest_candidate) }
 {
-    1u64 << ((65 - u64::leading_zeros(x)) / 2)
+    1 << ((65 - x.leading_zeros()) / 2)
 }
 
 // The root of x (METHOD 5.5). The candidate is above it, and the mean of the candidate and its quotient, never below the root, narrows it until
-// its square is not above x.
+// its square is not above x. (This loop is a form that the project's rules name, and takes fewer steps than std's `isqrt`.)
 pub fn root(x: u64) -> u64
     ensures { result ≡ root x }
 {

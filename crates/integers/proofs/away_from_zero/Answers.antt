@@ -1,13 +1,11 @@
 -- `integers::away_from_zero` meets its contract: each value of the code with the number that it is and a bound.
-use Prim.Native.Nat.{◌<◌, ◌+◌, ◌*◌}
+use Prim.Native.Nat.{◌+◌, ◌*◌}
 use mathlib.Core.Path.{ap₂, ◌∙◌}
-use native.Mathlib.Omega.{arith}
-use lib.IntN.{pos, nat_abs, ◌*ℤ◌}
+use lib.IntN.{pos, ◌*ℤ◌}
 use mir.Syntax.{w64}
 use mir.Val.{to_z, of_z}
 use mir.Facts.{to_z-of_z}
-use Rattle.integers.proofs.SizeLaws.{abs-mul}
-use Rattle.integers.proofs.Signed64.{Reads, i_arg, i_lit, i*, i/, i_kept, i_call, pos-abs, numerator_within}
+use Rattle.integers.proofs.Signed64.{Reads, i_arg, i_lit, i*, i/, i_kept, i_call, numerator_within}
 use Rattle.integers.specs.Promises.{largest_numerator, largest_divisor, farther}
 use Rattle.integers.proofs.RoundingLaws.{farther-quot, farther-within}
 use Rattle.integers.proofs.away_from_zero.Lts as lts
@@ -25,9 +23,6 @@ module _ (s : Start) where
   -- the divisor and its double
   twice-d : Reads (pos 2 *ℤ to_z w64 (of_z w64 s.args.d)) (pos 2 *ℤ s.args.d) (2 * largest_divisor)
   twice-d = i* (i_lit 2) (i_arg s.ranges.d s.requires.divisor)
-
-  two-d : 0 < nat_abs (pos 2 *ℤ s.args.d)
-  two-d = omega (arith, abs-mul (pos 2) s.args.d, pos-abs s.args.d s.requires.positive)
 
 numerator : (c : After-farther) → Reads (to_z w64 (of_z w64 c.farther.result)) (farther c.args.x c.args.d) (2 * largest_numerator + largest_divisor)
 numerator c = i_call c.farther.type_inv (c.farther.ensures ∙ ap₂ farther (to_z-of_z c.ranges.x) (to_z-of_z c.ranges.d)) (farther-within (numerator_within c.requires) c.requires.divisor)
