@@ -44,6 +44,18 @@ unfolding sum_n
 sum_n-split k zero f = rw add-zero (omega arith)
 sum_n-split k (suc m) f = rw add-suc (omega (arith, sum_n-split k m f))
 
+-- the first term apart
+pub sum_n-front : (n : ℕ) (f : ℕ → ℕ) → sum_n (suc n) f ≡ f 0 + sum_n n (λ i. f (suc i))
+unfolding sum_n
+sum_n-front zero f = omega arith
+sum_n-front (suc n) f = omega (arith, sum_n-front n f)
+
+-- each term at most b
+pub sum_n-most : (k b : ℕ) (f : ℕ → ℕ) → ((i : ℕ) → i < k → f i ≤ b) → sum_n k f ≤ k * b
+unfolding sum_n
+sum_n-most zero b f h = omega arith
+sum_n-most (suc k) b f h = omega (arith, sum_n-most k b f (λ i l. h i (omega arith)), h k (omega arith))
+
 -- ---- equal terms, differences
 pub sum_n-same : (k : ℕ) (f g : ℕ → ℕ) → ((i : ℕ) → i < k → f i ≡ g i) → sum_n k f ≡ sum_n k g
 unfolding sum_n

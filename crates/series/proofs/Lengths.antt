@@ -1,12 +1,15 @@
 -- How long the series are that an operation makes, and what stands in them.
 use mathlib.Core.Path.{◌≡◌, refl, ap}
 use mathlib.Core.List.{List, [], ◌∷◌}
-use Prim.Native.Nat.{ℕ, zero, suc, ◌<◌}
+use Prim.Native.Nat.{ℕ, zero, suc, ◌<◌, ◌≤◌}
 use native.Mathlib.Omega.{arith}
-use lib.ListN.{length}
+use lib.ListN.{length, take}
+use lib.Seq.{length-take-le}
+use Rattle.std.specs.Prelude.{replicate}
+use Rattle.std.proofs.lemmas.List.{get_or-replicate, length-replicate}
 use lib.IntN.{ℤ, pos, ◌-ℤ◌, ◌*ℤ◌}
-use Rattle.integers.specs.Lists.{◌‼◌}
-use Rattle.integers.proofs.FillingLaws.{length-tab, at-tab}
+use Rattle.integers.specs.Lists.{◌‼◌, tab}
+use Rattle.integers.proofs.FillingLaws.{length-tab, at-tab, tab-same}
 use Rattle.series.specs.Operations.{minus, times, pick}
 
 pub length-minus : (x y : List ℤ) → length (minus x y) ≡ length x
@@ -31,3 +34,8 @@ at-times m (z ∷ zs) (suc t) = at-times m zs t
 pub length-pick : (n : ℕ) (g : ℕ → ℕ) (x : List ℤ) → length (pick n g x) ≡ n
 unfolding pick
 length-pick n g x = length-tab n _
+
+-- as std writes a front that is filled with 0
+pub zeros : (n : ℕ) (x : List ℤ) → n ≤ length x → replicate (length (take n x)) (pos 0) ≡ tab n (λ _. pos 0)
+zeros n x h = let e : length (take n x) ≡ n = length-take-le n x h in
+    rw e (tab-same (pos 0) n (λ _. pos 0) (replicate n (pos 0)) (length-replicate n (pos 0)) (λ i l. get_or-replicate n i (pos 0) (pos 0) l))

@@ -1,5 +1,6 @@
 -- What the functions ask of their arguments, and figures that can be worked, for the crates above. Nothing here is promised to a caller of the desk.
-use Rattle.std.specs.Prelude.{◌≡◌, List, ℕ, ◌*◌, ◌≤◌, length, ℤ}
+use Rattle.std.specs.Prelude.{◌≡◌, List, ℕ, ◌*◌, ◌≤◌, length, sum_by, ℤ, nat_abs, ◌-ℤ◌}
+use Rattle.std.specs.List.{zip}
 use Rattle.integers.specs.Lists.{AllWithin}
 use Rattle.refusals.specs.Limits.{least_months, most_months, months_of_year, largest_figure}
 
@@ -21,6 +22,10 @@ pub record Changing (x : List ℤ) (span first hi : ℕ) : Type 0 where
   pub back : span ≤ first
   pub order : first ≤ hi
   pub inside : hi ≤ length x
+
+-- the sum of the sizes of the differences of two lists, month by month
+abbrev pub distance : List ℤ → List ℤ → ℕ
+distance x y = sum_by (λ p. nat_abs (p.0 -ℤ p.1)) (zip x y)
 
 -- no sum of changes is larger
 abbrev pub most_change : ℕ

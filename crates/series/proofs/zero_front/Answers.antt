@@ -1,16 +1,10 @@
-use Rattle.integers.proofs.FillingLaws.{filled_none, filled_more, filled_front}
-use mathlib.Core.Path.{refl}
-use native.Mathlib.Omega.{arith}
+-- `series::zero_front` meets its contract: the front that is filled.
+use mathlib.Core.Path.{ap, ◌∙◌}
+use mathlib.Core.List.{List, ◌++◌}
+use lib.ListN.{drop}
+use lib.IntN.{ℤ}
+use Rattle.series.proofs.Lengths.{zeros}
 use Rattle.series.proofs.zero_front.Goals as goal
 
-pub loop-i-init : goal.loop-i-init
-loop-i-init c = (omega arith, filled_none)
-
-pub loop-i-preserved : goal.loop-i-preserved
-loop-i-preserved c = (omega arith, filled_more c.loop-i.invariant.1 (omega arith) (omega arith) refl)
-
-pub shape_of-s : goal.shape_of-s
-shape_of-s c = c.loop-i.invariant.1.long
-
 pub returns : goal.returns
-returns c = filled_front c.loop-i.invariant.1 (omega arith) c.requires
+returns c = let s = c.args.s.now in ap (λ (l : List ℤ). l ++ drop c.args.n s) (c.fill.ensures.after (λ y e. e) ∙ zeros c.args.n s c.requires)
