@@ -10,19 +10,18 @@ use Rattle.little_endian.specs.Bytes.{AreBytes, bytes_of, number_at}
 
 -- ---- byte by byte
 -- one byte more, from the high end down
-pub read_more : (bytes : List ℕ) (at width i value : ℕ) → i < width → value ≡ number_at bytes (at + (width - i)) i
-    → 256 * value + get_or bytes (at + (width - 1 - i)) 0 ≡ number_at bytes (at + (width - (i + 1))) (i + 1)
+pub read_more : (bytes : List ℕ) (at width i value : ℕ) → 0 < i → i ≤ width → value ≡ number_at bytes (at + i) (width - i)
+    → 256 * value + get_or bytes (at + (i - 1)) 0 ≡ number_at bytes (at + (i - 1)) (width - (i - 1))
 unfolding number_at
-read_more bytes at width i value h e =
-    let one : i + 1 ≡ suc i = omega arith in
-    let here : at + (width - suc i) ≡ at + (width - 1 - i) = omega arith in
-    let next : at + (width - i) ≡ suc (at + (width - 1 - i)) = omega arith in
-    let e' : value ≡ number_at bytes (suc (at + (width - 1 - i))) i = rw next at e in
-    rw (one, here) (omega arith)
+read_more bytes at width i value h l e =
+    let one : width - (i - 1) ≡ suc (width - i) = omega arith in
+    let next : at + i ≡ suc (at + (i - 1)) = omega arith in
+    let e' : value ≡ number_at bytes (suc (at + (i - 1))) (width - i) = rw next at e in
+    rw one (omega arith)
 
 -- a further byte keeps a number below 256 to the power of its width
-pub small_more : (value b k : ℕ) → value < 256 ^ k → b < 256 → 256 * value + b < 256 ^ (k + 1)
-small_more value b k h l = let one : k + 1 ≡ suc k = omega arith in rw one (omega (arith, pow-succ' 256 k))
+pub small_more : (value b width i : ℕ) → 0 < i → i ≤ width → value < 256 ^ (width - i) → b < 256 → 256 * value + b < 256 ^ (width - (i - 1))
+small_more value b width i h k l m = let one : width - (i - 1) ≡ suc (width - i) = omega arith in rw one (omega (arith, pow-succ' 256 (width - i)))
 
 -- three bytes leave room for a fourth
 pub three_bytes : (value k : ℕ) → value < 256 ^ k → k ≤ 3 → value < 16777216
