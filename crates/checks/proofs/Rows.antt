@@ -1,5 +1,5 @@
 -- Rows 1 to 5: what each test on the way says of the answer.
-use mathlib.Core.Path.{◌≡◌, sym, ap, subst, subst⁻¹}
+use mathlib.Core.Path.{◌≡◌, sym, ap}
 use mathlib.Core.Bool.{true, false, not}
 use mathlib.Core.List.{List}
 use Prim.Native.Nat.{ℕ, ◌+◌, ◌≤◌}
@@ -18,20 +18,18 @@ use Rattle.refusals.proofs.InsideLaws.{both, start-inside, figure-inside}
 use Rattle.refusals.specs.First.{first_outside}
 use Rattle.refusals.specs.Sheet.{success, refusal_of}
 use Rattle.refusals.proofs.FirstLaws.{NoneBefore, all_passed}
-use Rattle.refusals.specs.Promises.{Before, Stopped, SpanFits, Spans}
+use Rattle.refusals.specs.Promises.{Before, Stopped, span_checks, SpanFits}
 use Rattle.refusals.proofs.CheckLaws.{one_more, row-applies, each_applies, each_passed, stopped_more, stopped, none-applies, span_passed}
 use Rattle.refusals.specs.declared.Refusal.{Refusal}
-use Rattle.refusals.specs.declared.Verdict.{Verdict}
-use Rattle.refusals.specs.declared.Verdict.TheVariants.{Refused}
-use Rattle.refusals.specs.declared.Found.TheVariants.{At, Nowhere}
+use Rattle.std.specs.Prelude.{Some, None}
 use Rattle.refusals.specs.declared.Refusal.TheVariants.{WrongLength, FigureOutside}
 use Rattle.scratch.specs.Scratch.{scratch_for}
 use Rattle.checks.specs.Answer.{fitting, decompose_checks, answer_for}
-use Rattle.checks.specs.Promises.{Fits, Accepts, Checked}
+use Rattle.checks.specs.Promises.{Fits, Accepts}
 use Rattle.checks.specs.declared.Lengths.{Lengths}
 
 -- figures of which none is outside
-all-inside : (f : List ℤ) → first_outside f ≡ Nowhere → AllWithin largest_figure f
+all-inside : (f : List ℤ) → first_outside f ≡ None → AllWithin largest_figure f
 unfolding first_outside
 all-inside f e = record { at = λ t. go t (dec_le (t + 1) (length f)) }
   where
@@ -68,8 +66,8 @@ module _ (start : ℕ) (f : List ℤ) (l : Lengths) where
   refuses q s = sym (stopped (success tt) s)
 
   -- rows 1 to 3
-  pub by_span : {v : Verdict} {q : Refusal} → v ≡ Refused q → Spans v (length f) start → Checked v start f l
-  by_span {v} {q} e s = subst⁻¹ (λ (k : Verdict). Checked k start f l) e (refuses q (stopped_more _ (subst (λ (k : Verdict). Spans k (length f) start) e s)))
+  pub by_span : (q : Refusal) → Stopped q (span_checks (length f) start) → answer_for start f l ≡ refusal_of q
+  by_span q s = refuses q (stopped_more _ s)
 
   -- the span fits
   module _ (h : SpanFits (length f) start) where
@@ -83,10 +81,10 @@ module _ (start : ℕ) (f : List ℤ) (l : Lengths) where
       four : Before 4 (decompose_checks start f l)
       four = one_more (decompose_checks start f l) 3 three (ap not d)
 
-      pub outside : (t : ℕ) → first_outside f ≡ At t → answer_for start f l ≡ refusal_of (FigureOutside t)
+      pub outside : (t : ℕ) → first_outside f ≡ Some t → answer_for start f l ≡ refusal_of (FigureOutside t)
       outside t e = refuses (FigureOutside t) (record { at = 4; before = four; here = each_applies 5 e })
 
-      pub fine : first_outside f ≡ Nowhere → Accepts start f l
+      pub fine : first_outside f ≡ None → Accepts start f l
       unfolding answer_for
       fine e = record {
         workable = record {

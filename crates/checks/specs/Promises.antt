@@ -1,11 +1,10 @@
 -- What the checks find, for the entry point. Nothing here is promised to a caller of the desk.
-use Rattle.std.specs.Prelude.{◌≡◌, List, ℕ, ◌≤◌, length, ℤ}
+use Rattle.std.specs.Prelude.{◌≡◌, List, ℕ, ◌≤◌, length, ℤ, Result, Ok, Err}
 use Rattle.series.specs.Promises.{Workable}
 use Rattle.scratch.specs.Scratch.{scratch_for}
 use Rattle.refusals.specs.Sheet.{success, refusal_of}
 use Rattle.checks.specs.declared.Lengths.{Lengths}
-use Rattle.refusals.specs.declared.Verdict.{Verdict}
-use Rattle.refusals.specs.declared.Verdict.TheVariants.{Fine, Refused}
+use Rattle.refusals.specs.declared.Refusal.{Refusal}
 use Rattle.checks.specs.Answer.{answer_for}
 
 -- slices that are as long as row 4 wants them
@@ -25,6 +24,6 @@ pub record Accepts (start : ℕ) (f : List ℤ) (lent : Lengths) : Type 0 where
   pub answer_is : answer_for start f lent ≡ success tt
 
 -- no row applies, or the first that does is q's
-abbrev pub Checked : Verdict → ℕ → List ℤ → Lengths → Type 0
-Checked Fine start f lent = Accepts start f lent
-Checked (Refused q) start f lent = answer_for start f lent ≡ refusal_of q
+abbrev pub Checked : Result Unit Refusal → ℕ → List ℤ → Lengths → Type 0
+Checked (Ok done) start f lent = Accepts start f lent
+Checked (Err q) start f lent = answer_for start f lent ≡ refusal_of q

@@ -6,7 +6,7 @@ ghost use Rattle.refusals.specs.Limits.{most_months};
 ghost use Rattle.checks.specs.Answer.{fitting};
 ghost use Rattle.checks.specs.Promises.{Checked};
 
-use refusals::{Found, Refusal, Verdict};
+use refusals::Refusal;
 
 // How long the lent slices are.
 #[derive(Clone, Copy)]
@@ -21,46 +21,26 @@ pub struct Lengths {
 }
 
 // Row 4 (METHOD 8.3): whether each lent slice has its length for n months.
+#[tactic(auto, unfolding(crate::specs::Answer::fitting))]
 fn fitting(n: usize, lent: Lengths) -> bool
     requires { n ≤ most_months }
     ensures { result ≡ fitting n lent }
 {
-    if lent.d10 != n {
-        return false;
-    }
-    if lent.d11 != n {
-        return false;
-    }
-    if lent.d12 != n {
-        return false;
-    }
-    if lent.d13 != n {
-        return false;
-    }
-    if lent.b17 != n {
-        return false;
-    }
-    if lent.c17 != n {
-        return false;
-    }
-    scratch::long_enough(n, lent.scratch)
+    [lent.d10, lent.d11, lent.d12, lent.d13, lent.b17, lent.c17] == [n; 6]
+        && scratch::long_enough(n, lent.scratch)
 }
 
 // The first of rows 1 to 5 that applies.
-pub fn first_refusal(figures: &[i32], start: u8, lent: Lengths) -> Verdict
+pub fn first_refusal(figures: &[i32], start: u8, lent: Lengths) -> Result<(), Refusal>
     ensures { Checked result start figures.now lent }
 {
     let n = figures.len();
-    let span = refusals::span(n, start);
-    let Verdict::Fine = span else {
-        return span;
-    };
-    if fitting(n, lent) {
-        let found = refusals::first_outside(figures);
-        if let Found::At(t) = found {
-            return Verdict::Refused(Refusal::FigureOutside(t));
-        }
-        return Verdict::Fine;
+    refusals::span(n, start)?;
+    if !fitting(n, lent) {
+        return Err(Refusal::WrongLength);
     }
-    Verdict::Refused(Refusal::WrongLength)
+    match refusals::first_outside(figures) {
+        Some(t) => Err(Refusal::FigureOutside(t)),
+        None => Ok(()),
+    }
 }

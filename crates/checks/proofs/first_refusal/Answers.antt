@@ -1,16 +1,17 @@
 -- `checks::first_refusal` meets its contract: each return is the first row that applies.
-use mathlib.Core.Path.{sym, ◌∙◌}
+use mathlib.Core.Path.{sym}
+use Rattle.std.proofs.Common.{rules}
 use Rattle.checks.proofs.Rows.{by_span, wrong-length, outside, fine}
 use Rattle.checks.proofs.first_refusal.Goals as goal
 
-pub returns-in_default : goal.returns-in_default
-returns-in_default c = by_span c.args.start c.args.figures.now c.args.lent c.in_default.is c.span-span.ensures
+pub returns-in_err-span : goal.returns-in_err-span
+returns-in_err-span c = search (rules, by_span)
 
-pub returns-in-At : goal.returns-in-At
-returns-in-At c = outside c.args.start c.args.figures.now c.args.lent c.in-Fine.ensures (sym c.fitting.ensures ∙ c.if-fitting.true) _ (sym c.first_outside-found.ensures ∙ c.in-At.is)
+pub returns-then-not-fitting : goal.returns-then-not-fitting
+returns-then-not-fitting c = wrong-length c.args.start c.args.figures.now c.args.lent c.in_ok-span.ensures (sym c.if-not-fitting.ensures)
 
-pub returns-then-fitting : goal.returns-then-fitting
-returns-then-fitting c = fine c.args.start c.args.figures.now c.args.lent c.in-Fine.ensures (sym c.fitting.ensures ∙ c.if-fitting.true) (sym c.first_outside-found.ensures ∙ c.in_default-found.is)
+pub returns-in-Some : goal.returns-in-Some
+returns-in-Some c = outside c.args.start c.args.figures.now c.args.lent c.in_ok-span.ensures (sym c.if-not-fitting.ensures) _ (sym c.in-Some.ensures)
 
-pub returns : goal.returns
-returns c = wrong-length c.args.start c.args.figures.now c.args.lent c.in-Fine.ensures (sym c.fitting.ensures ∙ c.if-fitting.false)
+pub returns-in-None : goal.returns-in-None
+returns-in-None c = fine c.args.start c.args.figures.now c.args.lent c.in_ok-span.ensures (sym c.if-not-fitting.ensures) (sym c.in-None.ensures)
