@@ -1,10 +1,9 @@
 -- Which doubles count, as the code finds out: by the whole part, and whether the double equals it.
-use Rattle.std.proofs.Common.{◌≡◌, ℕ, zero, suc, ◌+◌, ◌*◌, ◌/◌, ◌%◌, ◌^◌, ◌<◌, ◌≤◌, min, Bool, true, false, ◌&&◌, ◌||◌, T, eqb, leb, ℤ, pos, negsuc, ◌+ℤ◌, neg_ℤ, nat_abs, sym, refl, ap, ◌∙◌, subst, mul_assoc, mul-pos, div-add-mod', le-div_iff_mul-le, zero-mul, mul-one, mul_right_comm, arith, w32, SFits, ltb-false, ltb-true, lt-ltb, eq-eqb, ne_eqb, eqb-true, le-leb}
+use Rattle.std.proofs.Common.{◌≡◌, ℕ, zero, suc, ◌*◌, ◌/◌, ◌%◌, ◌^◌, ◌<◌, ◌≤◌, min, Bool, true, false, ◌&&◌, ◌||◌, T, eqb, leb, ℤ, pos, negsuc, ◌+ℤ◌, neg_ℤ, nat_abs, sym, refl, ap, ◌∙◌, subst, mul_assoc, mul-pos, div-add-mod', zero-mul, mul-one, mul_right_comm, arith, w32, SFits, lt-ltb, eq-eqb, ne_eqb, eqb-true, le-leb}
 use mathlib.Core.Bool.{beq}
 use native.Mathlib.Nat.{eq_of_mul-eq-mul_right}
-use borrow.Author.Tests.{lt-leb, eqb-false}
-use lib.Signed.{lt_z}
-use lib.Ieee.{Float, nan, inf, fin, binary64, up, down, lt, le, eq, of_int, to_signed, of_bits, add, in_signed, in_float}
+use borrow.Author.Tests.{lt-leb, leb-false, eqb-false}
+use lib.Ieee.{Float, nan, inf, fin, binary64, up, down, eq, of_int, to_signed, of_bits, add, in_signed, in_float}
 use lib.Ieee.Fits.{down_pos}
 use lib.Ieee.Back.{positive_back, negative_back}
 use lib.Ieee.Exact.{HasValue}
@@ -13,14 +12,14 @@ use Rattle.integers.proofs.SizeLaws.{abs_neg}
 use Rattle.refusals.specs.Inside.{figure_inside}
 use Rattle.refusals.specs.Limits.{largest_figure}
 use Rattle.refusals.proofs.InsideLaws.{both, figure-inside}
-use Rattle.doubles.specs.declared.AsFigure.TheVariants.{Figure, Not}
+use Rattle.std.specs.Prelude.{Some, None}
 use Rattle.doubles.specs.Promises.{figure_of}
 use Rattle.doubles.specs.Doubles.{is_whole, number_in, counts, IsNumber, double_of}
 use Rattle.doubles.specs.Laws.{NamedDoubles}
 use Rattle.doubles.proofs.Exact.{zero-positive, zero_bits, sum_exact, signed, size_of_signed, is_neg, value_of}
 
 -- ---- a double that counts
-not-figure : {z : ℤ} → Not ≡ Figure z → ⊥
+not-figure : {z : ℤ} → None ≡ Some z → ⊥
 not-figure e = let z : ◌≡◌ {A = ℕ} 0 1 = cc in omega arith
 
 pub counts-number : (x : Float) → counts x ≡ true → IsNumber x (number_in x)
@@ -37,7 +36,7 @@ unfolding counts
 number_counts x z h l = rw (h.whole, h.number) l
 
 -- what the code answers of it
-pub counted : (x : Float) {z : ℤ} → figure_of x ≡ Figure z → counts x ≡ true
+pub counted : (x : Float) {z : ℤ} → figure_of x ≡ Some z → counts x ≡ true
 unfolding figure_of
 counted x {z} h = by (counts x) refl
   where
@@ -45,7 +44,7 @@ counted x {z} h = by (counts x) refl
     by true e = e
     by false e = absurd (not-figure (rw e at h))
 
-pub not-counted : (x : Float) → figure_of x ≡ Not → counts x ≡ false
+pub not-counted : (x : Float) → figure_of x ≡ None → counts x ≡ false
 unfolding figure_of
 not-counted x h = by (counts x) refl
   where
@@ -81,41 +80,11 @@ big s m e h = counts-fin s m e ∙ by (eqb (m * up e % down e) 0) (leb (m * up e
     by true d e = e
     by false d e = refl
 
-quotient_big : (m d : ℕ) → 0 < d → 9223372036854775808 * d ≤ m → largest_figure < m / d
-quotient_big m d p h = omega (arith, (le-div_iff_mul-le {x = 9223372036854775808} {y = m} p).1 h)
-
-or_left : (a b : Bool) → (a || b) ≡ false → a ≡ false
-or_left true b h = h
-or_left false b h = refl
-
-nothing : (a d : ℕ) → 0 < d → a + 1 * 9223372036854775808 * d ≤ 0 → ⊥
-nothing a d p h = omega arith
-
-pub too_low : (x : Float) → le (fin true 1 (pos 63)) x ≡ false → counts x ≡ false
-unfolding le lt eq
-too_low nan h = none-counts.0
-too_low (inf s) h = none-counts.1 s
-too_low (fin false m e) h =
-    let l = ltb-false 0 (1 * 9223372036854775808 * down e + m * up e * 1) (or_left _ _ h) in
-    absurd (nothing (m * up e * 1) (down e) (down_pos e) (omega arith))
-too_low (fin true m e) h =
-    big true m e (quotient_big (m * up e) (down e) (down_pos e) (omega (arith, ltb-false (m * up e * 1) (1 * 9223372036854775808 * down e) (or_left _ _ h))))
-
-pub too_high : (x : Float) → lt x (fin false 1 (pos 63)) ≡ false → counts x ≡ false
-unfolding lt
-too_high nan h = none-counts.0
-too_high (inf s) h = none-counts.1 s
-too_high (fin true m e) h =
-    let l = ltb-false 0 (m * up e * 1 + 1 * 9223372036854775808 * down e) h in
-    absurd (nothing (m * up e * 1) (down e) (down_pos e) l)
-too_high (fin false m e) h =
-    big false m e (quotient_big (m * up e) (down e) (down_pos e) (omega (arith, ltb-false (m * up e * 1) (1 * 9223372036854775808 * down e) h)))
-
-pub too_far : (x : Float) → largest_figure < nat_abs (to_signed 63 x) → counts x ≡ false
+too_far : (x : Float) → largest_figure < nat_abs (to_signed 31 x) → counts x ≡ false
 unfolding to_signed
 too_far nan h = none-counts.0
 too_far (inf s) h = none-counts.1 s
-too_far (fin true m e) h = big true m e (omega (arith, abs_neg (pos (min (m * up e / down e) 9223372036854775808))))
+too_far (fin true m e) h = big true m e (omega (arith, abs_neg (pos (min (m * up e / down e) 2147483648))))
 too_far (fin false m e) h = big false m e (omega arith)
 
 -- ---- where the whole part is near
@@ -154,6 +123,14 @@ and_true : (a b : Bool) → b ≡ true → (a && b) ≡ a
 and_true true b h = h
 and_true false b h = refl
 
+and_false : (a b : Bool) → b ≡ false → (a && b) ≡ false
+and_false true b h = h
+and_false false b h = refl
+
+outside : (z : ℤ) → figure_inside z ≡ false → largest_figure < nat_abs z
+unfolding figure_inside
+outside z h = leb-false (nat_abs z) largest_figure h
+
 -- the quotient times the divisor is the number exactly where nothing is left over
 no_rest : (n d : ℕ) → eqb (n / d * d) n ≡ eqb (n % d) 0
 no_rest n d = same_test (n / d * d) n (n % d) 0 (λ p. omega (arith, div-add-mod' n d)) (λ p. omega (arith, div-add-mod' n d))
@@ -178,39 +155,37 @@ eq_nan (fin s m e) = refl
 
 -- the whole part of x as the machine cuts it is its number; and x counts exactly where it equals the double of that
 pub record Near (x : Float) : Type 0 where
-  pub number : to_signed 63 x ≡ number_in x
-  pub test : eq (of_int binary64 (to_signed 63 x)) x ≡ counts x
+  pub number : to_signed 31 x ≡ number_in x
+  pub test : eq (of_int binary64 (to_signed 31 x)) x ≡ counts x
 
 cut : (n q : ℕ) → min q n ≤ largest_figure → largest_figure < n → min q n ≡ q
 cut n q h k = omega arith
 
-pub near_test : (x : Float) → nat_abs (to_signed 63 x) ≤ largest_figure → Near x
+near_test : (x : Float) → nat_abs (to_signed 31 x) ≤ largest_figure → Near x
 unfolding to_signed number_in
 near_test nan h = record { number = refl; test = eq_nan (of_int binary64 (pos 0)) ∙ sym none-counts.0 }
 near_test (inf true) h = absurd (omega arith)
 near_test (inf false) h = absurd (omega arith)
 near_test (fin true m e) h =
     let q = m * up e / down e in
-    let k = abs_neg (pos (min q 9223372036854775808)) in
-    let small = cut 9223372036854775808 q (omega (arith, k)) (omega arith) in
+    let k = abs_neg (pos (min q 2147483648)) in
+    let small = cut 2147483648 q (omega (arith, k)) (omega arith) in
     record { number = ap (λ (k : ℕ). neg_ℤ (pos k)) small; test = rw small (near true m e (omega (arith, k))) }
 near_test (fin false m e) h =
     let q = m * up e / down e in
-    let small = cut 9223372036854775807 q (omega arith) (omega arith) in
+    let small = cut 2147483647 q (omega arith) (omega arith) in
     record { number = ap pos small; test = rw small (near false m e (omega arith)) }
 
--- the code's tests of the whole part, by its size
-pub below_far : (z : ℤ) → lt_z z (negsuc 199999) ≡ true → largest_figure < nat_abs z
-below_far (pos n) t = let z : ◌≡◌ {A = ℕ} 0 1 = cc in absurd (omega arith)
-below_far (negsuc k) t = omega (arith, ltb-true 199999 k t)
+-- so x counts exactly where it equals the double of its whole part, and that is a figure
+pub part-number : (x : Float) → figure_inside (to_signed 31 x) ≡ true → to_signed 31 x ≡ number_in x
+part-number x h = (near_test x (figure-inside (to_signed 31 x) h)).number
 
-pub above_far : (z : ℤ) → lt_z (pos 200000) z ≡ true → largest_figure < nat_abs z
-above_far (pos n) t = ltb-true 200000 n t
-above_far (negsuc k) t = let z : ◌≡◌ {A = ℕ} 0 1 = cc in absurd (omega arith)
-
-pub within : (z : ℤ) → lt_z z (negsuc 199999) ≡ false → lt_z (pos 200000) z ≡ false → nat_abs z ≤ largest_figure
-within (pos n) t u = ltb-false 200000 n u
-within (negsuc k) t u = omega (arith, ltb-false 199999 k t)
+pub part-test : (x : Float) → counts x ≡ (eq (of_int binary64 (to_signed 31 x)) x && figure_inside (to_signed 31 x))
+part-test x = by (figure_inside (to_signed 31 x)) refl
+  where
+    by : (b : Bool) → figure_inside (to_signed 31 x) ≡ b → counts x ≡ (eq (of_int binary64 (to_signed 31 x)) x && figure_inside (to_signed 31 x))
+    by true e = sym (near_test x (figure-inside (to_signed 31 x) e)).test ∙ sym (and_true _ (figure_inside (to_signed 31 x)) e)
+    by false e = too_far x (outside (to_signed 31 x) e) ∙ sym (and_false _ (figure_inside (to_signed 31 x)) e)
 
 -- ---- where a double is known to count, positive zero and it sum to the double of its number, which the machine casts to that number
 back : (z : ℤ) → nat_abs z ≤ largest_figure → T (in_signed binary64 31 (double_of z)) × (to_signed 31 (double_of z) ≡ z)

@@ -1,8 +1,7 @@
 // METHOD 7.10 and 7.11: doubles in bytes, and those that count.
 #![tactic(auto)]
 
-ghost use Rattle.std.specs.Prelude.{◌≡◌, ◌+◌, ◌≤◌, true, length, from_bits};
-ghost use Rattle.std.specs.Float.{binary64};
+ghost use Rattle.std.specs.Prelude.{◌≡◌, ◌+◌, ◌≤◌, true, length};
 ghost use Rattle.little_endian.specs.Bytes.{Number};
 ghost use Rattle.doubles.specs.Doubles.{counts, double_at, number_in, unused_at};
 ghost use Rattle.doubles.specs.Promises.{figure_of};
@@ -24,31 +23,17 @@ fn bits_at(bytes: &[u8], at: usize) -> u64
     low + HALF_MODULUS * high
 }
 
-// The pattern of an infinity without its sign: those above are no numbers. And the weight of the sign.
-const INFINITE: u64 = 9218868437227405312;
-
-const SIGN: u64 = 9223372036854775808;
-
-// The double of a pattern of bits; every pattern that is no number gives the same.
-fn double_of_bits(bits: u64) -> f64
-    ensures { result ≡ from_bits binary64 bits }
-{
-    if INFINITE < bits % SIGN {
-        0.0 / 0.0
-    } else {
-        f64::from_bits(bits)
-    }
-}
-
-// The double in eight bytes.
+// The double in eight bytes; every pattern that is no number gives the same.
+#[tactic(auto, unfolding(crate::specs::Doubles::double_at))]
 pub fn double_at(bytes: &[u8], at: usize) -> f64
     requires { at + 8 ≤ length bytes.now }
     ensures { result ≡ double_at bytes.now at }
 {
-    double_of_bits(bits_at(bytes, at))
+    std::num::f64_from_bits_with_nan(bits_at(bytes, at))
 }
 
 // Eight zero bytes.
+#[tactic(auto, unfolding(crate::specs::Doubles::unused_at))]
 pub fn unused_at(bytes: &[u8], at: usize) -> bool
     requires { at + 8 ≤ length bytes.now }
     ensures { result ≡ unused_at bytes.now at }
@@ -56,36 +41,16 @@ pub fn unused_at(bytes: &[u8], at: usize) -> bool
     bits_at(bytes, at) == 0
 }
 
-// The largest size of a figure.
-const LARGEST: i64 = refusals::LARGEST_FIGURE as i64;
-
-// The figure that a double is, if it counts.
-#[derive(Clone, Copy)]
-pub enum AsFigure {
-    Figure(i32),
-    Not,
-}
-
-// Only a double that equals its own whole part is whole; negative zero equals 0. The first two tests are of what 64 bits hold.
-pub fn figure_of(x: f64) -> AsFigure
+// The figure that a double is, if it counts: it equals its own whole part, and negative zero equals 0.
+pub fn figure_of(x: f64) -> Option<i32>
     ensures { result ≡ figure_of x }
 {
-    if x >= -9223372036854775808.0 {
-        if x < 9223372036854775808.0 {
-            let whole = std::num::truncating_f64_to_i64(x);
-            if whole < -LARGEST {
-                return AsFigure::Not;
-            }
-            if LARGEST < whole {
-                return AsFigure::Not;
-            }
-            let figure = whole as i32;
-            if figure as f64 == x {
-                return AsFigure::Figure(figure);
-            }
-        }
+    let figure = std::num::saturating_f64_to_i32(x);
+    if figure as f64 == x && !refusals::figure_outside(figure) {
+        Some(figure)
+    } else {
+        None
     }
-    AsFigure::Not
 }
 
 // The figure that a double is, where it is known to count. A sum with positive zero is never negative zero, which the cast would not take.
