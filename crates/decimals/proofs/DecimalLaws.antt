@@ -11,8 +11,9 @@ use lib.IntN.{ℤ, pos, negsuc, nat_abs}
 use lib.Signed.{lt_z, mag}
 use lib.ListN.{length, length-append}
 use Rattle.decimals.specs.Decimal.{digit, digits_in, digits, minus_sign, signed_digits}
-use Rattle.decimals.specs.Storing.{Stored}
-use Rattle.decimals.proofs.StoringLaws.{stored-then, stored-eq, stored_short}
+use Rattle.decimals.specs.declared.Text.{Text}
+use Rattle.decimals.specs.Storing.{Put}
+use Rattle.decimals.proofs.StoringLaws.{put-then, put-eq, put_short}
 
 -- ---- enough divisions give the digits
 tenth : (n k : ℕ) → 10 ≤ n → n ≤ suc k → n / 10 ≤ k
@@ -66,16 +67,14 @@ unfolding signed_digits
 at-most-signed (pos n) h = omega (arith, at-most-twenty n (omega arith))
 at-most-signed (negsuc n) h = omega (arith, at-most-twenty (suc n) (omega arith))
 
--- ---- digits that are stored
-module _ {before after : List ℕ} {at next : ℕ} where
-  pub first-digit : {n d : ℕ} → Stored 1 before at (d ∷ []) next after → d ≡ digit n → n < 10 → Stored 20 before at (digits n) next after
-  first-digit {n} {d} p e h = stored-eq (ap (λ (d : ℕ). d ∷ []) e ∙ sym (one-digit n h)) (stored_short p (omega arith))
+-- ---- digits that are put
+module _ {x y : Text} {n : ℕ} where
+  pub first-digit : {d : ℕ} → Put 1 x (d ∷ []) y → d ≡ digit n → n < 10 → Put 20 x (digits n) y
+  first-digit p e h = put-eq (ap (λ (d : ℕ). d ∷ []) e ∙ sym (one-digit n h)) (put_short p (omega arith))
 
-  pub next-digit : {n d m : ℕ} {mid : List ℕ} → Stored 20 before at (digits (n / 10)) m mid → Stored 1 mid m (d ∷ []) next after → d ≡ digit (n % 10) → 10 ≤ n → n < 2 ^ 64
-      → Stored 20 before at (digits n) next after
-  next-digit {n} {d} {m} {mid} p q e h l =
-      let same : digits (n / 10) ++ d ∷ [] ≡ digits n = ap (λ (d : ℕ). digits (n / 10) ++ d ∷ []) e ∙ sym (more-digits n h) in
-      stored_short (stored-eq same (stored-then p q)) (at-most-twenty n l)
+  pub next-digit : {d : ℕ} {mid : Text} → Put 20 x (digits (n / 10)) mid → Put 1 mid (d ∷ []) y → d ≡ digit (n % 10) → 10 ≤ n → n < 2 ^ 64 → Put 20 x (digits n) y
+  next-digit p q e h l =
+      put_short (put-eq (ap (λ (d : ℕ). digits (n / 10) ++ d ∷ []) e ∙ sym (more-digits n h)) (put-then p q)) (at-most-twenty n l)
 
 -- ---- the sign: y is x as the code reads it, and s its size
 module _ {x y : ℤ} {s : ℕ} (e : s ≡ nat_abs y) (r : y ≡ x) where

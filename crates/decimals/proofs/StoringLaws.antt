@@ -1,12 +1,14 @@
 -- How stores follow each other.
-use Prim.Native.Nat.{ℕ, suc, ◌+◌, ◌≤◌, ◌<◌}
+use Prim.Native.Nat.{ℕ, ◌+◌, ◌-◌, ◌≤◌}
 use mathlib.Core.Path.{◌≡◌, ◌∙◌, ap, sym, subst}
-use mathlib.Core.List.{List, ◌++◌}
+use mathlib.Core.List.{List, ◌++◌, append_assoc}
 use native.Mathlib.Omega.{arith}
-use lib.ListN.{length, get_or, set, drop, drop_of_length-le, length-append}
-use lib.Seq.{sets, length-sets, drop-cons}
+use lib.ListN.{length, length-append}
+use lib.Seq.{sets, length-sets, sets-eq, drop-drop}
 use Rattle.integers.proofs.Stores.{sets-append}
-use Rattle.decimals.specs.Storing.{Stored}
+use borrow.Rule.Slice.PartMut.{put_mid}
+use Rattle.decimals.specs.declared.Text.{Text}
+use Rattle.decimals.specs.Storing.{Stored, Put}
 
 pub stored-as : {most : ℕ} {before : List ℕ} {at : ℕ} {bytes : List ℕ} {next : ℕ} {after : List ℕ} → after ≡ sets before at bytes → next ≡ at + length bytes → length bytes ≤ most
     → Stored most before at bytes next after
@@ -35,12 +37,21 @@ stored-within p h = stored_short p (omega (arith, p.short))
 pub stored-inside : {most : ℕ} {before after bytes : List ℕ} {at next : ℕ} → Stored most before at bytes next after → at + most ≤ length before → next ≤ length after
 stored-inside p h = omega (arith, p)
 
--- ---- a copy, one byte after the other: what is left to store
-pub copy_more : (l text : List ℕ) (at i : ℕ) → i < length text → sets l (at + i) (drop i text) ≡ sets (set l (at + i) (get_or text i 0)) (at + (i + 1)) (drop (i + 1) text)
-copy_more l text at i h =
-    let e : at + (i + 1) ≡ suc (at + i) = omega arith in
-    let f : i + 1 ≡ suc i = omega arith in
-    rw (e, f, drop-cons text i 0 h)
+-- ---- a text that goes on in its slice
+-- a word that is copied into the part that was lent for it
+pub word-copied : (l word copy : List ℕ) (at : ℕ) → at + length word ≤ length l → copy ≡ word → put_mid at (at + length word - at) l copy ≡ sets l at word
+word-copied l word copy at h e =
+    let k : at + length word - at ≡ length word = omega arith in
+    rw (e, k, drop-drop (length word) at l, sets-eq word l at h, append_assoc)
 
-pub copy-none : (l text : List ℕ) (at i : ℕ) → length text ≤ i → sets l (at + i) (drop i text) ≡ l
-copy-none l text at i h = rw (drop_of_length-le text {i = i} h)
+pub put-then : {a b : ℕ} {x y z : Text} {xs ys : List ℕ} → Put a x xs y → Put b y ys z → Put (a + b) x (xs ++ ys) z
+put-then p q = record { same = q.same ∙ p.same; stored = stored-then p.stored q.stored }
+
+pub put-eq : {most : ℕ} {x y : Text} {xs ys : List ℕ} → xs ≡ ys → Put most x xs y → Put most x ys y
+put-eq e p = record { same = p.same; stored = stored-eq e p.stored }
+
+pub put_short : {a most : ℕ} {x y : Text} {xs : List ℕ} → Put a x xs y → length xs ≤ most → Put most x xs y
+put_short p h = record { same = p.same; stored = stored_short p.stored h }
+
+pub put-within : {a most : ℕ} {x y : Text} {xs : List ℕ} → Put a x xs y → a ≤ most → Put most x xs y
+put-within p h = record { same = p.same; stored = stored-within p.stored h }

@@ -1,59 +1,92 @@
-// Bytes and decimal numbers stored in a slice. Each function asks room for what it stores and no more, and answers the place after it.
+// A text that is put together at the front of a lent slice: words of bytes, and numbers in decimal digits. Each function asks room for what it
+// puts and no more.
 #![tactic(auto)]
 
-ghost use Rattle.std.specs.Prelude.{◌≡◌, [], ◌∷◌, ◌+◌, ◌≤◌, ◌<◌, length};
+ghost use Rattle.std.specs.Prelude.{◌≡◌, ℕ, List, [], ◌∷◌, ◌+◌, ◌≤◌, ◌<◌, length};
 ghost use Rattle.decimals.specs.Decimal.{digit, digits, signed_digits, most_digits, most_signed};
-ghost use Rattle.decimals.specs.Storing.{Stored};
 
-pub fn put_byte(out: &mut [u8], at: usize, byte: u8) -> usize
-    requires { at + 1 ≤ length out.old }
-    ensures { Stored 1 out.old at (byte ∷ []) result out.new }
-{
-    out[at] = byte;
-    at + 1
+// The bytes before `at` are put, those from there on are as they were lent.
+pub struct Text<'a> {
+    pub out: &'a mut [u8],
+    pub at: usize,
+    ghost inside: { at ≤ length out.now },
 }
 
-// The bytes of a text.
-pub fn put_text(out: &mut [u8], at: usize, text: &[u8]) -> usize
-    requires { at + length text.now ≤ length out.old }
-    ensures { Stored (length text.now) out.old at text.now result out.new }
-{
-    let mut i = 0;
-    while i < text.len() {
-        out[at + i] = text[i];
-        i += 1;
+impl<'a> Text<'a> {
+    ghost use Rattle.decimals.specs.Storing.{Put};
+
+    // Nothing is put yet.
+    pub fn new(out: &'a mut [u8]) -> Text<'a>
+        ensures same { result.out.ghost_name ≡ out.entry.ghost_name }
+        ensures lent { result.out.now ≡ out.old }
+        ensures start { result.at ≡ 0 }
+    {
+        Text { out, at: 0 }
     }
-    at + i
-}
 
-// The decimal digits of a number, at most 20: those of its tenth, then the last.
-pub fn put_digits(out: &mut [u8], at: usize, n: u64) -> usize
-    requires { at + length (digits n) ≤ length out.old }
-    ensures { Stored most_digits out.old at (digits n) result out.new }
-{
-    if n < 10 {
-        return put_byte(out, at, digit(n));
+    pub fn put_word(&mut self, word: &[u8])
+        requires { self.old.at + length word.now ≤ length self.old.out.now }
+        ensures { Put (length word.now) self.old word.now self.new }
+    {
+        let end = self.at + word.len();
+        self.out[self.at..end].copy_from_slice(word);
+        self.at = end;
     }
-    let last = put_digits(out, at, n / 10);
-    put_byte(out, last, digit(n % 10))
+
+    pub fn put_byte(&mut self, byte: u8)
+        requires { self.old.at + 1 ≤ length self.old.out.now }
+        ensures { Put 1 self.old (byte ∷ []) self.new }
+    {
+        self.put_word(&[byte]);
+    }
 }
 
-pub fn digit(d: u64) -> u8
+// A number that is printed. It is no `Display`, which promises its bytes only where it answers Ok, while `print_tables::put_file` has to put them.
+pub trait Number: Copy {
+    ghost use Rattle.decimals.specs.Storing.{Put};
+
+    // Its text, and how many bytes that has at most.
+    ghost text: { Self → List ℕ };
+
+    ghost most: { ℕ };
+
+    fn put(self, out: &mut Text<'_>)
+        requires { out.old.at + length (text self) ≤ length out.old.out.now }
+        ensures { Put most out.old (text self) out.new };
+}
+
+// The decimal digits, at most 20: those of its tenth, then the last.
+impl Number for u64 {
+    ghost text = { digits };
+
+    ghost most = { most_digits };
+
+    fn put(self, out: &mut Text<'_>) {
+        if self < 10 {
+            return out.put_byte(digit(self));
+        }
+        (self / 10).put(out);
+        out.put_byte(digit(self % 10));
+    }
+}
+
+// The digits of its size, a minus sign before them only where it is negative.
+impl Number for i64 {
+    ghost text = { signed_digits };
+
+    ghost most = { most_signed };
+
+    fn put(self, out: &mut Text<'_>) {
+        if self < 0 {
+            out.put_byte(b'-');
+        }
+        integers::size(self).put(out);
+    }
+}
+
+fn digit(d: u64) -> u8
     requires { d < 10 }
     ensures { result ≡ digit d }
 {
-    48 + d as u8
-}
-
-// The digits of a number's size, a minus sign before them only where it is negative.
-pub fn put_signed(out: &mut [u8], at: usize, x: i64) -> usize
-    requires { at + length (signed_digits x) ≤ length out.old }
-    ensures { Stored most_signed out.old at (signed_digits x) result out.new }
-{
-    if x < 0 {
-        let next = put_byte(out, at, b'-');
-        put_digits(out, next, integers::size(x))
-    } else {
-        put_digits(out, at, integers::size(x))
-    }
+    b'0' + d as u8
 }
