@@ -1,7 +1,7 @@
 -- How stores follow each other.
 use Prim.Native.Nat.{ℕ, ◌+◌, ◌-◌, ◌≤◌}
-use mathlib.Core.Path.{◌≡◌, ◌∙◌, ap, sym, subst}
-use mathlib.Core.List.{List, ◌++◌, append_assoc}
+use mathlib.Core.Path.{◌≡◌, refl, ◌∙◌, ap, sym}
+use mathlib.Core.List.{List, [], ◌++◌, append_assoc}
 use native.Mathlib.Omega.{arith}
 use lib.ListN.{length, length-append}
 use lib.Seq.{sets, length-sets, sets-eq, drop-drop}
@@ -23,35 +23,31 @@ stored-then {a} {b} {before} {mid} {after} {at} {m} {next} {xs} {ys} p q =
     (omega (arith, length-append xs ys))
     (omega (arith, length-append xs ys))
 
--- the same store, of bytes that are equal, or counted otherwise
-pub stored-eq : {most : ℕ} {before after : List ℕ} {at next : ℕ} {xs ys : List ℕ} → xs ≡ ys → Stored most before at xs next after → Stored most before at ys next after
-stored-eq {most} {before} {after} {at} {next} e p = subst (λ (l : List ℕ). Stored most before at l next after) e p
-
-pub stored_short : {a most : ℕ} {before after : List ℕ} {at next : ℕ} {xs : List ℕ} → Stored a before at xs next after → length xs ≤ most → Stored most before at xs next after
-stored_short p h = record { stored = p.stored; ends = p.ends; short = h; long = p.long }
-
-pub stored-within : {a most : ℕ} {before after : List ℕ} {at next : ℕ} {xs : List ℕ} → Stored a before at xs next after → a ≤ most → Stored most before at xs next after
-stored-within p h = stored_short p (omega (arith, p.short))
-
--- what is stored ends inside the slice
-pub stored-inside : {most : ℕ} {before after bytes : List ℕ} {at next : ℕ} → Stored most before at bytes next after → at + most ≤ length before → next ≤ length after
-stored-inside p h = omega (arith, p)
-
--- ---- a text that goes on in its slice
 -- a word that is copied into the part that was lent for it
 pub word-copied : (l word copy : List ℕ) (at : ℕ) → at + length word ≤ length l → copy ≡ word → put_mid at (at + length word - at) l copy ≡ sets l at word
 word-copied l word copy at h e =
     let k : at + length word - at ≡ length word = omega arith in
     rw (e, k, drop-drop (length word) at l, sets-eq word l at h, append_assoc)
 
-pub put-then : {a b : ℕ} {x y z : Text} {xs ys : List ℕ} → Put a x xs y → Put b y ys z → Put (a + b) x (xs ++ ys) z
-put-then p q = record { same = q.same ∙ p.same; stored = stored-then p.stored q.stored }
+-- ---- a text that goes on in its slice
+module _ {x : Text} where
+  pub put-nothing : Put 0 x [] x
+  put-nothing = record { same = refl; stored = stored-as refl (omega arith) (omega arith) }
 
-pub put-eq : {most : ℕ} {x y : Text} {xs ys : List ℕ} → xs ≡ ys → Put most x xs y → Put most x ys y
-put-eq e p = record { same = p.same; stored = stored-eq e p.stored }
+  -- one after the other
+  pub put-then : {a b : ℕ} {y z : Text} {xs ys : List ℕ} → Put a x xs y → Put b y ys z → Put (a + b) x (xs ++ ys) z
+  put-then p q = record { same = q.same ∙ p.same; stored = stored-then p.stored q.stored }
 
-pub put_short : {a most : ℕ} {x y : Text} {xs : List ℕ} → Put a x xs y → length xs ≤ most → Put most x xs y
-put_short p h = record { same = p.same; stored = stored_short p.stored h }
+  -- the same, of bytes that are equal, or counted otherwise
+  pub put-eq : {most : ℕ} {y : Text} {xs ys : List ℕ} → xs ≡ ys → Put most x xs y → Put most x ys y
+  put-eq e p = rw e at p
 
-pub put-within : {a most : ℕ} {x y : Text} {xs : List ℕ} → Put a x xs y → a ≤ most → Put most x xs y
-put-within p h = record { same = p.same; stored = stored-within p.stored h }
+  pub put_short : {a most : ℕ} {y : Text} {xs : List ℕ} → Put a x xs y → length xs ≤ most → Put most x xs y
+  put_short p h = record { same = p.same; stored = stored-as p.stored.stored p.stored.ends h }
+
+  pub put-within : {a most : ℕ} {y : Text} {xs : List ℕ} → Put a x xs y → a ≤ most → Put most x xs y
+  put-within p h = put_short p (omega (arith, p.stored.short))
+
+-- a text that is put in a slice from its first place on
+pub stored-in : {most : ℕ} {lent bytes out : List ℕ} {x y : Text} → x.out.now ≡ lent → x.at ≡ 0 → Put most x bytes y → out ≡ y.out.now → Stored most lent 0 bytes y.at out
+stored-in {most} {lent} {bytes} {out} {x} {y} l a p e = rw (l, a, ← e) at p.stored

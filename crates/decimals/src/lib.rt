@@ -6,6 +6,7 @@ ghost use Rattle.std.specs.Prelude.{◌≡◌, ℕ, List, [], ◌∷◌, ◌+◌
 ghost use Rattle.decimals.specs.Decimal.{digit, digits, signed_digits, most_digits, most_signed};
 
 // The bytes before `at` are put, those from there on are as they were lent.
+#[derive(Drop)]
 pub struct Text<'a> {
     pub out: &'a mut [u8],
     pub at: usize,
@@ -77,7 +78,8 @@ impl Number for i64 {
     ghost most = { most_signed };
 
     fn put(self, out: &mut Text<'_>) {
-        if self < 0 {
+        let negative = self < 0;
+        if negative {
             out.put_byte(b'-');
         }
         integers::size(self).put(out);

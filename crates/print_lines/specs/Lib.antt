@@ -1,2 +1,3 @@
--- METHOD 9: the lines that are printed.
+-- METHOD 9: the lines that are printed, and the slices of which they are made.
 pub mod Text
+pub mod Lent

@@ -7,8 +7,8 @@ pub returns : goal.returns
 unfolding first_line
 returns c =
     line-of-four
-    c.put_text-count.ensures
-    c.put_spaced-word.ensures
-    c.put_text-month.ensures
-    c.put_spaced-end.ensures
+    c.put_word.ensures
+    c.put_spaced.ensures
+    c.put_word-2.ensures
+    (rw c.from.ensures at c.put_spaced-2.ensures)
     c.put_byte.ensures
