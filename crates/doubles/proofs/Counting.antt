@@ -12,16 +12,11 @@ use Rattle.integers.proofs.SizeLaws.{abs_neg}
 use Rattle.refusals.specs.Inside.{figure_inside}
 use Rattle.refusals.specs.Limits.{largest_figure}
 use Rattle.refusals.proofs.InsideLaws.{both, figure-inside}
-use Rattle.std.specs.Prelude.{Some, None}
-use Rattle.doubles.specs.Promises.{figure_of}
 use Rattle.doubles.specs.Doubles.{is_whole, number_in, counts, IsNumber, double_of}
 use Rattle.doubles.specs.Laws.{NamedDoubles}
 use Rattle.doubles.proofs.Exact.{zero-positive, zero_bits, sum_exact, signed, size_of_signed, is_neg, value_of}
 
 -- ---- a double that counts
-not-figure : {z : ℤ} → None ≡ Some z → ⊥
-not-figure e = let z : ◌≡◌ {A = ℕ} 0 1 = cc in omega arith
-
 pub counts-number : (x : Float) → counts x ≡ true → IsNumber x (number_in x)
 unfolding counts
 counts-number x h = record { whole = (both (is_whole x) (figure_inside (number_in x)) h).0; number = refl }
@@ -34,23 +29,6 @@ counts-size x h = figure-inside (number_in x) (both (is_whole x) (figure_inside 
 pub number_counts : (x : Float) (z : ℤ) → IsNumber x z → figure_inside z ≡ true → counts x ≡ true
 unfolding counts
 number_counts x z h l = rw (h.whole, h.number) l
-
--- what the code answers of it
-pub counted : (x : Float) {z : ℤ} → figure_of x ≡ Some z → counts x ≡ true
-unfolding figure_of
-counted x {z} h = by (counts x) refl
-  where
-    by : (b : Bool) → counts x ≡ b → counts x ≡ true
-    by true e = e
-    by false e = absurd (not-figure (rw e at h))
-
-pub not-counted : (x : Float) → figure_of x ≡ None → counts x ≡ false
-unfolding figure_of
-not-counted x h = by (counts x) refl
-  where
-    by : (b : Bool) → counts x ≡ b → counts x ≡ false
-    by true e = absurd (not-figure (sym (rw e at h)))
-    by false e = e
 
 -- a figure fits in 32 bits
 pub fits32 : (z : ℤ) → nat_abs z ≤ largest_figure → SFits w32 z

@@ -1,6 +1,6 @@
 -- METHOD 7.10, 7.12 and 7.13, the members' sheet: where its parts stand in a byte string, what each cell is, and what it adds to the series and to the
 -- total revision. The count is in the 2 bytes from place 0 on and the start month in the byte at place 2, as in a desk file: `count_in` and `start_in`.
-use Rattle.std.specs.Prelude.{ℕ, ◌+◌, ◌*◌, cond, ◌&&◌, List, eqb, ℤ, pos, ◌-ℤ◌, Float}
+use Rattle.std.specs.Prelude.{ℕ, ◌+◌, ◌*◌, cond, ◌&&◌, List, eqb, ℤ, pos, ◌-ℤ◌, Float, Option, Some, None}
 use Rattle.std.specs.Float.{binary64}
 use Rattle.std.specs.Float.Ieee.{add, sub}
 use Rattle.little_endian.specs.Bytes.{number_at}
@@ -8,8 +8,7 @@ use Rattle.desk_forms.specs.Header.{count_in}
 use Rattle.doubles.specs.Doubles.{double_at, unused_at, number_in, positive_zero}
 use Rattle.sheet_cells.specs.declared.Imported.{Imported}
 use Rattle.sheet_cells.specs.declared.Cell.TheVariants.{Gap, Figure, Revision}
-use Rattle.sheet_cells.specs.declared.CellRead.{CellRead}
-use Rattle.sheet_cells.specs.declared.CellRead.TheVariants.{Known, Malformed}
+use Rattle.sheet_cells.specs.declared.Cell.{Cell}
 
 -- METHOD 7.10: the sizes take 2 + 1 bytes; a month has a kind of 1 byte and a cell of two doubles
 abbrev pub sizes_length : ℕ
@@ -39,37 +38,37 @@ imported_at sheet t place = with_month t (double_at sheet place)
 
 -- METHOD 7.10, the table of kinds: 0 is a gap, 1 a figure in the first double, 2 a revision, the old figure and then the new one. A malformed cell has an
 -- unknown kind, or an unused double with a byte that is not zero
-unfoldable pub cell_at : List ℕ → ℕ → CellRead
+unfoldable pub cell_at : List ℕ → ℕ → Option Cell
 cell_at sheet t =
-    cond (eqb (kind_at sheet t) 0) (cond (unused_at sheet (first_at sheet t) && unused_at sheet (second_at sheet t)) (Known Gap) Malformed)
-    (cond (eqb (kind_at sheet t) 1) (cond (unused_at sheet (second_at sheet t)) (Known (Figure (imported_at sheet t (first_at sheet t)))) Malformed)
-    (cond (eqb (kind_at sheet t) 2) (Known (Revision (imported_at sheet t (first_at sheet t)) (imported_at sheet t (second_at sheet t))))
-    Malformed))
+    cond (eqb (kind_at sheet t) 0) (cond (unused_at sheet (first_at sheet t) && unused_at sheet (second_at sheet t)) (Some Gap) None)
+    (cond (eqb (kind_at sheet t) 1) (cond (unused_at sheet (second_at sheet t)) (Some (Figure (imported_at sheet t (first_at sheet t)))) None)
+    (cond (eqb (kind_at sheet t) 2) (Some (Revision (imported_at sheet t (first_at sheet t)) (imported_at sheet t (second_at sheet t))))
+    None))
 
 -- METHOD 7.12: the figure of a cell, the new one of a revision (a malformed cell or a gap has none: such a sheet is refused)
-abbrev pub newest : CellRead → Float
-newest Malformed = positive_zero
-newest (Known Gap) = positive_zero
-newest (Known (Figure figure)) = figure.double
-newest (Known (Revision old new)) = new.double
+abbrev pub newest : Option Cell → Float
+newest None = positive_zero
+newest (Some Gap) = positive_zero
+newest (Some (Figure figure)) = figure.double
+newest (Some (Revision old new)) = new.double
 
 -- METHOD 7.13: its revision as a whole number, new less old; a cell without a revision adds nothing
-abbrev pub revision : CellRead → ℤ
-revision Malformed = pos 0
-revision (Known Gap) = pos 0
-revision (Known (Figure figure)) = pos 0
-revision (Known (Revision old new)) = number_in new.double -ℤ number_in old.double
+abbrev pub revision : Option Cell → ℤ
+revision None = pos 0
+revision (Some Gap) = pos 0
+revision (Some (Figure figure)) = pos 0
+revision (Some (Revision old new)) = number_in new.double -ℤ number_in old.double
 
 -- METHOD 7.13: the same in doubles, and the total after this cell; a cell without a revision leaves it as it is. `sub` and `add` are those of the kit's
 -- IEEE 754: the double nearest to the difference, to the sum, and of two as near the even one
-abbrev pub difference : CellRead → Float
-difference Malformed = positive_zero
-difference (Known Gap) = positive_zero
-difference (Known (Figure figure)) = positive_zero
-difference (Known (Revision old new)) = sub binary64 new.double old.double
+abbrev pub difference : Option Cell → Float
+difference None = positive_zero
+difference (Some Gap) = positive_zero
+difference (Some (Figure figure)) = positive_zero
+difference (Some (Revision old new)) = sub binary64 new.double old.double
 
-abbrev pub revised_by : Float → CellRead → Float
-revised_by total Malformed = total
-revised_by total (Known Gap) = total
-revised_by total (Known (Figure figure)) = total
-revised_by total (Known (Revision old new)) = add binary64 total (difference (Known (Revision old new)))
+abbrev pub revised_by : Float → Option Cell → Float
+revised_by total None = total
+revised_by total (Some Gap) = total
+revised_by total (Some (Figure figure)) = total
+revised_by total (Some (Revision old new)) = add binary64 total (difference (Some (Revision old new)))

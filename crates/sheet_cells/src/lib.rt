@@ -6,8 +6,7 @@ ghost use Rattle.sheet_cells.specs.Cells.{with_month, imported_at, cell_at, newe
 ghost use Rattle.sheet_cells.specs.CellChecks.{cell_checks};
 ghost use Rattle.sheet_cells.specs.Promises.{HasCells, OfMonth, Says, acceptance};
 
-use doubles::AsFigure;
-use refusals::{Refusal, Verdict};
+use refusals::Refusal;
 
 // Bytes of the sizes, and of a cell.
 pub const SIZES: usize = 3;
@@ -29,13 +28,6 @@ pub enum Cell {
     Revision(Imported, Imported),
 }
 
-// A cell that was read; a malformed one has an unknown kind, or an unused double with a byte that is not zero.
-#[derive(Clone, Copy)]
-pub enum CellRead {
-    Known(Cell),
-    Malformed,
-}
-
 // The kinds.
 const GAP: u8 = 0;
 
@@ -44,6 +36,7 @@ const FIGURE: u8 = 1;
 const REVISION: u8 = 2;
 
 // The double at a place of the sheet, with its month.
+#[tactic(auto, unfolding(crate::specs::Cells::imported_at))]
 fn imported_at(sheet: &[u8], month: usize, at: usize) -> Imported
     requires { at + 8 ≤ length sheet.now }
     ensures { result ≡ imported_at sheet.now month at }
@@ -54,93 +47,89 @@ fn imported_at(sheet: &[u8], month: usize, at: usize) -> Imported
     }
 }
 
-// The cell of month t.
-pub fn cell_at(sheet: &[u8], n: usize, t: usize) -> CellRead
-    requires { HasCells sheet.now n × (t < n) }
-    ensures { result ≡ cell_at sheet.now t }
-{
-    let kind = sheet[SIZES + t];
-    let first_at = SIZES + n + CELL * t;
-    let second_at = first_at + doubles::DOUBLE;
-    if kind == REVISION {
-        let old = imported_at(sheet, t, first_at);
-        let new = imported_at(sheet, t, second_at);
-        return CellRead::Known(Cell::Revision(old, new));
-    }
-    if !doubles::unused_at(sheet, second_at) {
-        return CellRead::Malformed;
-    }
-    if kind == FIGURE {
-        return CellRead::Known(Cell::Figure(imported_at(sheet, t, first_at)));
-    }
-    if kind == GAP {
-        if doubles::unused_at(sheet, first_at) {
-            return CellRead::Known(Cell::Gap);
+// A sheet that is long enough for the cells of its n months.
+#[derive(Clone, Copy)]
+pub struct Cells<'a> {
+    pub sheet: &'a [u8],
+    pub n: usize,
+    ghost has_cells: { HasCells sheet.now n },
+}
+
+impl<'a> Cells<'a> {
+    // The cell of month t. None is a malformed one: its kind is unknown, or an unused double of it has a byte that is not zero.
+    #[tactic(auto, using(crate::proofs::CellLaws::kind_byte), unfolding(crate::specs::Cells::cell_at, crate::specs::Cells::first_at, crate::specs::Cells::second_at))]
+    pub fn cell_at(&self, t: usize) -> Option<Cell>
+        requires { t < self.now.n }
+        ensures { result ≡ cell_at self.now.sheet.now t }
+    {
+        let first_at = SIZES + self.n + CELL * t;
+        let second_at = first_at + doubles::DOUBLE;
+        match self.sheet[SIZES + t] {
+            GAP
+                if doubles::unused_at(self.sheet, first_at)
+                    && doubles::unused_at(self.sheet, second_at) => { Some(Cell::Gap) }
+            FIGURE if doubles::unused_at(self.sheet, second_at) => {
+                Some(Cell::Figure(imported_at(self.sheet, t, first_at)))
+            }
+            REVISION => {
+                let old = imported_at(self.sheet, t, first_at);
+                let new = imported_at(self.sheet, t, second_at);
+                Some(Cell::Revision(old, new))
+            }
+            _ => None,
         }
     }
-    CellRead::Malformed
+
+    // Rows 12 to 14 of the cell of month t.
+    #[tactic(auto, using(crate::proofs::CellLaws::figure_says, crate::proofs::CellLaws::old_says, crate::proofs::CellLaws::new_says))]
+    pub fn check(&self, t: usize) -> Result<(), Refusal>
+        requires { t < self.now.n }
+        ensures { Says (cell_checks self.now.sheet.now t) result }
+    {
+        match self.cell_at(t) {
+            None => Err(Refusal::MalformedCell(t)),
+            Some(Cell::Gap) => Err(Refusal::Gap(t)),
+            Some(Cell::Figure(figure)) => accept(figure),
+            Some(Cell::Revision(old, new)) => {
+                accept(old)?;
+                accept(new)
+            }
+        }
+    }
 }
 
 // Row 14 of one double, with the number of its month.
-fn accept(imported: Imported) -> Verdict
+#[tactic(auto, unfolding(crate::specs::Promises::acceptance, doubles::specs::Promises::figure_of))]
+fn accept(imported: Imported) -> Result<(), Refusal>
     ensures { result ≡ acceptance imported }
 {
     match doubles::figure_of(imported.double) {
-        AsFigure::Figure(_) => Verdict::Fine,
-        AsFigure::Not => Verdict::Refused(Refusal::BadDouble(imported.month)),
-    }
-}
-
-// Rows 12 to 14 of the cell of month t.
-pub fn check_cell(sheet: &[u8], n: usize, t: usize) -> Verdict
-    requires { HasCells sheet.now n × (t < n) }
-    ensures { Says (cell_checks sheet.now t) result }
-{
-    let CellRead::Known(cell) = cell_at(sheet, n, t) else {
-        return Verdict::Refused(Refusal::MalformedCell(t));
-    };
-    match cell {
-        Cell::Gap => Verdict::Refused(Refusal::Gap(t)),
-        Cell::Figure(figure) => accept(figure),
-        Cell::Revision(old, new) => {
-            let verdict = accept(old);
-            let Verdict::Fine = verdict else {
-                return verdict;
-            };
-            accept(new)
-        }
+        Some(_) => Ok(()),
+        None => Err(Refusal::BadDouble(imported.month)),
     }
 }
 
 // What a cell of month t brings in: its figure, the new one of a revision. (Nothing is stored of a cell that is refused.)
-pub fn import(cell: CellRead, t: usize) -> Imported
+pub fn import(cell: Option<Cell>, t: usize) -> Imported
     requires { OfMonth t cell }
     ensures { result ≡ with_month t (newest cell) }
 {
-    let nothing = Imported {
-        month: t,
-        double: 0.0,
-    };
-    let CellRead::Known(known) = cell else {
-        return nothing;
-    };
-    match known {
-        Cell::Gap => nothing,
-        Cell::Figure(figure) => figure,
-        Cell::Revision(_, new) => new,
+    match cell {
+        Some(Cell::Figure(figure)) => figure,
+        Some(Cell::Revision(_, new)) => new,
+        Some(Cell::Gap) | None => Imported {
+            month: t,
+            double: 0.0,
+        },
     }
 }
 
 // The total with the revision of one cell more.
-pub fn with_revision(total: f64, cell: CellRead) -> f64
+pub fn with_revision(total: f64, cell: Option<Cell>) -> f64
     ensures { result ≡ revised_by total cell }
 {
-    let CellRead::Known(known) = cell else {
-        return total;
-    };
-    match known {
-        Cell::Gap => total,
-        Cell::Figure(_) => total,
-        Cell::Revision(old, new) => total + (new.double - old.double),
+    match cell {
+        Some(Cell::Revision(old, new)) => total + (new.double - old.double),
+        _ => total,
     }
 }
