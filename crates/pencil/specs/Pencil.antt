@@ -1,5 +1,5 @@
 -- METHOD 11: the pencil cases, in its order. Each line has what the rules give, and what is written there.
-use Rattle.std.specs.Prelude.{◌≡◌, cond, List, [], ◌∷◌, ◌++◌, map, ℕ, ◌+◌, ◌*◌, ◌-◌, ◌%◌, ltb, eqb, length, replicate, ℤ, pos, negsuc, neg_ℤ}
+use Rattle.std.specs.Prelude.{◌≡◌, cond, List, [], ◌∷◌, ◌++◌, map, ℕ, ◌+◌, ◌*◌, ◌-◌, ◌%◌, ltb, eqb, Option, None, Some, length, replicate, ℤ, pos, negsuc, neg_ℤ}
 use Rattle.integers.specs.Lists.{◌‼◌, tab}
 use Rattle.integers.specs.Rounding.{to_grain}
 use Rattle.filters.specs.Filter.{value_at, filter, inside}
@@ -9,8 +9,6 @@ use Rattle.rows.specs.declared.Terms.{Terms}
 use Rattle.rows.specs.declared.Terms.TheVariants.{Nine, Thirteen, TwentyThree}
 use Rattle.rows.specs.FilterTables.{table2x12, table_seasonal, table_henderson}
 use Rattle.trend_length.specs.TrendLength.{month_changes, terms_for}
-use Rattle.seasonal_choice.specs.declared.Decision.{Decision}
-use Rattle.seasonal_choice.specs.declared.Decision.TheVariants.{Decided, Undecided}
 use Rattle.seasonal_choice.specs.SeasonalChoice.{year_changes, decide, chosen_filter}
 use Rattle.extremes.specs.Spreads.{size_of, spread, remaining, second_spread}
 use Rattle.extremes.specs.Weighing.{weight, correction_of}
@@ -106,9 +104,9 @@ filter_number ThreeByThree = 33
 filter_number ThreeByFive = 35
 filter_number ThreeByNine = 39
 
-abbrev answer_number : Decision → ℕ
-answer_number (Decided f) = filter_number f
-answer_number Undecided = 0
+abbrev answer_number : Option SeasonalFilter → ℕ
+answer_number (Some f) = filter_number f
+answer_number None = 0
 
 abbrev answer_to : ℕ → ℕ → ℕ
 answer_to i s = answer_number (decide i s)

@@ -6,34 +6,33 @@ use native.Mathlib.Nat.{mul-le-mul_left, mul-add}
 use native.Mathlib.Omega.{arith}
 use lib.ListN.{length, take, length-take}
 use lib.IntN.{ℤ}
+use Rattle.std.specs.Prelude.{Option, None, Some}
 use Rattle.integers.proofs.Fronts.{front_long}
 use Rattle.series.specs.Operations.{changes}
 use Rattle.series.proofs.Largest.{within_front}
 use Rattle.series.proofs.ChangeLaws.{changes-split, changes-front}
 use Rattle.rows.specs.declared.SeasonalFilter.{SeasonalFilter}
 use Rattle.rows.specs.declared.SeasonalFilter.TheVariants.{ThreeByFive}
-use Rattle.seasonal_choice.specs.declared.Decision.{Decision}
-use Rattle.seasonal_choice.specs.declared.Decision.TheVariants.{Decided, Undecided}
-use Rattle.seasonal_choice.specs.SeasonalChoice.{year_changes, decide, or_else, year_off, ask}
+use Rattle.seasonal_choice.specs.SeasonalChoice.{year_changes, decide, year_off, ask}
 use Rattle.seasonal_choice.specs.Promises.{MonthsKept}
 
 -- ---- the three ways on, by what the sums decide
 module _ (p : ℕ) (irregular seasonal : List ℤ) where
-  abbrev decision : Decision
+  abbrev decision : Option SeasonalFilter
   decision = decide (year_changes p irregular) (year_changes p seasonal)
 
-  decided_is : (tries : ℕ) {f : SeasonalFilter} → Decided f ≡ decision → f ≡ ask p tries irregular seasonal
-  unfolding ask or_else
+  decided_is : (tries : ℕ) {f : SeasonalFilter} → Some f ≡ decision → f ≡ ask p tries irregular seasonal
+  unfolding ask
   decided_is zero e = rw (← e)
   decided_is (suc k) e = rw (← e)
 
-  last_is : (tries : ℕ) → Undecided ≡ decision → tries ≡ 0 → ThreeByFive ≡ ask p tries irregular seasonal
-  unfolding ask or_else
+  last_is : (tries : ℕ) → None ≡ decision → tries ≡ 0 → ThreeByFive ≡ ask p tries irregular seasonal
+  unfolding ask
   last_is zero e z = rw (← e)
   last_is (suc k) e z = absurd (omega arith)
 
-  again_is : (tries : ℕ) → Undecided ≡ decision → (tries ≡ 0 → ⊥) → ask p (tries - 1) (year_off p irregular) (year_off p seasonal) ≡ ask p tries irregular seasonal
-  unfolding ask or_else
+  again_is : (tries : ℕ) → None ≡ decision → (tries ≡ 0 → ⊥) → ask p (tries - 1) (year_off p irregular) (year_off p seasonal) ≡ ask p tries irregular seasonal
+  unfolding ask
   again_is zero e z = absurd (z refl)
   again_is (suc k) e z = let d : suc k - 1 ≡ k = omega arith in rw (← e, d)
 
@@ -50,18 +49,18 @@ changes-off p x h =
 
 -- ---- the same of the months kept, as the code has them
 
--- the changes into the last p of n months
+-- the changes into the last p of n months, as many as x has
 abbrev last_changes : ℕ → ℕ → List ℤ → ℕ
-last_changes p n x = changes x p (n - p) (n - (n - p))
+last_changes p n x = changes x p (n - p) (length x - (n - p))
 
 module _ {p : ℕ} {irregular seasonal : List ℤ} {i s tries : ℕ} (k : MonthsKept p irregular seasonal i s tries) where
-  decision_is : {v : Decision} → v ≡ decide i s → v ≡ decision p irregular seasonal
+  decision_is : {v : Option SeasonalFilter} → v ≡ decide i s → v ≡ decision p irregular seasonal
   decision_is e = e ∙ ap₂ decide k.i_is k.s_is
 
-  pub decided : {v : Decision} {f : SeasonalFilter} → v ≡ decide i s → v ≡ Decided f → f ≡ ask p tries irregular seasonal
+  pub decided : {v : Option SeasonalFilter} {f : SeasonalFilter} → v ≡ decide i s → v ≡ Some f → f ≡ ask p tries irregular seasonal
   decided e g = decided_is p irregular seasonal tries (sym g ∙ decision_is e)
 
-  pub given_up : {v : Decision} → v ≡ decide i s → v ≡ Undecided → tries ≡ 0 → ThreeByFive ≡ ask p tries irregular seasonal
+  pub given_up : {v : Option SeasonalFilter} → v ≡ decide i s → v ≡ None → tries ≡ 0 → ThreeByFive ≡ ask p tries irregular seasonal
   given_up e g z = last_is p irregular seasonal tries (sym g ∙ decision_is e) z
 
   same_off : take (length irregular - p) seasonal ≡ year_off p seasonal
@@ -82,7 +81,7 @@ module _ {p : ℕ} {irregular seasonal : List ℤ} {i s tries : ℕ} (k : Months
         → (c ≤ sum) × (sum - c ≡ year_changes p (year_off p x))
     off x e f g =
         let n = length irregular in
-        let a : n - (n - p) ≡ p = omega (arith, two-years) in
+        let a : length x - (n - p) ≡ p = omega (arith, e, two-years) in
         let h = rw e at (changes-off p x (omega (arith, two-years, e))) in
         omega (arith, h, f, g ∙ ap (changes x p (n - p)) a)
 
@@ -109,7 +108,7 @@ module _ {p : ℕ} {irregular seasonal : List ℤ} {i s tries : ℕ} (k : Months
       s_most = omega (arith, k.s_most);
     }
 
-    pub asked_again : {v : Decision} {r : SeasonalFilter} → v ≡ decide i s → v ≡ Undecided → r ≡ ask p (tries - 1) (take (length irregular - p) irregular) (take (length irregular - p) seasonal)
+    pub asked_again : {v : Option SeasonalFilter} {r : SeasonalFilter} → v ≡ decide i s → v ≡ None → r ≡ ask p (tries - 1) (take (length irregular - p) irregular) (take (length irregular - p) seasonal)
         → r ≡ ask p tries irregular seasonal
     unfolding year_off
     asked_again e g h = h ∙ ap (ask p (tries - 1) (year_off p irregular)) same_off ∙ again_is p irregular seasonal tries (sym g ∙ decision_is e) more

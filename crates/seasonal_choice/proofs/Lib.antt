@@ -1,3 +1,2 @@
 -- Laws of the choice of a seasonal filter.
-pub mod Deciding
 pub mod Asking

@@ -9,6 +9,7 @@ ghost use Rattle.trend_length.specs.Promises.{Measurable};
 use rows::Terms;
 
 // The sum of the sizes of the changes of a table from one month to the next, into t from 7 to n - 7.
+#[tactic(auto, unfolding(crate::specs::TrendLength::month_changes))]
 fn month_changes(x: &[i64]) -> u64
     requires { Measurable 6 x.now }
     ensures { (result ≡ month_changes 6 x.now) × (result ≤ most_change) }
@@ -17,7 +18,7 @@ fn month_changes(x: &[i64]) -> u64
 }
 
 // The terms for the sums I and C. Their sum is 0 where both are.
-#[tactic(auto, using(crate::proofs::Choosing::both_zero, crate::proofs::Choosing::smooth, crate::proofs::Choosing::between, crate::proofs::Choosing::rough))]
+#[tactic(auto, using(std::proofs::lemmas::Bool::Decides::nat_tests), unfolding(crate::specs::TrendLength::terms_for))]
 fn terms_for(i: u64, c: u64) -> Terms
     requires { (i ≤ most_change) × (c ≤ most_change) }
     ensures { result ≡ terms_for i c }
@@ -34,6 +35,7 @@ fn terms_for(i: u64, c: u64) -> Terms
 }
 
 // The length by an irregular and a trend, C13 and C7.
+#[tactic(auto, unfolding(crate::specs::TrendLength::trend_length))]
 pub fn trend_length(irregular: &[i64], trend: &[i64]) -> Terms
     requires { Measurable 6 irregular.now × Measurable 6 trend.now }
     ensures { result ≡ trend_length 6 irregular.now trend.now }

@@ -1,8 +1,5 @@
 -- `seasonal_choice::chosen_filter` meets its contract: the sums over all months, and five questions more at most.
-use Prim.Native.Nat.{ℕ, ◌-◌}
-use mathlib.Core.Path.{sym, ap, ◌∙◌}
 use native.Mathlib.Omega.{arith}
-use Rattle.series.specs.Operations.{changes}
 use Rattle.seasonal_choice.specs.SeasonalChoice.{year_changes, chosen_filter}
 use Rattle.seasonal_choice.proofs.chosen_filter.Goals as goal
 
@@ -11,10 +8,10 @@ unfolding year_changes
 ask-requires c = let p = c.requires in record {
   both = p.both;
   long = omega (arith, p.long);
-  i_is = c.changes-i.ensures.0;
-  s_is = c.changes-s.ensures.0 ∙ ap (λ (n : ℕ). changes c.args.seasonal.now 12 12 (n - 12)) (sym p.both.same);
-  i_most = c.changes-i.ensures.1;
-  s_most = c.changes-s.ensures.1;
+  i_is = c.year_changes-i.ensures.0;
+  s_is = c.year_changes-s.ensures.0;
+  i_most = c.year_changes-i.ensures.1;
+  s_most = c.year_changes-s.ensures.1;
 }
 
 pub returns : goal.returns

@@ -1,2 +1,0 @@
--- Laws of the choice of a length.
-pub mod Choosing
