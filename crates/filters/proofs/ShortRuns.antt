@@ -5,27 +5,12 @@ use Prim.Native.Nat.{ℕ, ◌+◌, ◌*◌, ◌-◌, ◌/◌, ◌≤◌, ◌<◌
 use native.Mathlib.Omega.{arith}
 use lib.IntN.{ℤ}
 use borrow.Author.Tests.{ne_eqb}
-use Rattle.integers.specs.Sums.{sum_n}
 use Rattle.rows.specs.declared.SeasonalFilter.TheVariants.{ThreeByNine}
-use Rattle.rows.specs.Table.{Table, row_for, middle_row, row_count, row_weight, denominator}
-use Rattle.rows.specs.MeanRows.{rows3x9}
-use Rattle.rows.specs.FilterTables.{table_seasonal, over_seasonal}
+use Rattle.rows.specs.Table.{row_for, middle_row, row_weight, denominator}
+use Rattle.rows.specs.FilterTables.{table_seasonal}
 use Rattle.filters.specs.Filter.{weighted_sum, by_row, earlier, later, value_at}
-use Rattle.filters.specs.Promises.{run_table, Readable}
+use Rattle.filters.specs.Promises.{over_ends}
 use Rattle.filters.proofs.ByMonth.{steps_fit}
-use Rattle.filters.proofs.Light.{Light, all_light}
-use Rattle.filters.proofs.Window.{readable}
-
--- its rows, all over one number
-abbrev pub short3x9 : Table
-short3x9 = run_table 5 6 over_seasonal over_seasonal rows3x9
-
-short_light : Light over_seasonal 1000 short3x9
-unfolding middle_row row_count row_weight denominator sum_n
-short_light = all_light short3x9 over_seasonal 1000 tt
-
-pub short_readable : Readable short3x9
-short_readable = readable _ (tt, tt, tt, tt, tt, tt, tt, tt, tt, tt, tt) short_light (omega arith)
 
 -- with five values before and five after, ten years and a month are there
 full-row : (b a d e : ℕ) → b ≤ 5 → a ≤ 5 → b * 12 ≤ d → a * 12 ≤ e → d + e < 120 → b * 6 + (5 - a) ≡ 30 → ⊥
@@ -43,6 +28,6 @@ not_full first past t h l m e =
     (steps_fit (t - first) 12 5) (steps_fit (past - 1 - t) 12 5) (months-most first past t h l m) e
 
 pub short_value : (first past : ℕ) (x : List ℤ) (t : ℕ) → past - first < 120 → first ≤ t → t < past
-    → value_at short3x9 first past x t ≡ value_at (table_seasonal ThreeByNine) first past x t
+    → value_at (over_ends (table_seasonal ThreeByNine)) first past x t ≡ value_at (table_seasonal ThreeByNine) first past x t
 unfolding table_seasonal value_at by_row earlier later weighted_sum row_for middle_row row_weight denominator
 short_value first past x t h l m = rw (ne_eqb _ 30 (not_full first past t h l m)) refl

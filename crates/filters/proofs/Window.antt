@@ -1,7 +1,7 @@
 -- The row and the values that a filter reads are there, and its sum is small.
-use mathlib.Core.Path.{◌≡◌, refl}
+use mathlib.Core.Path.{◌≡◌}
 use mathlib.Core.Bool.{Bool, true, false, cond}
-use mathlib.Core.List.{List, []}
+use mathlib.Core.List.{List}
 use Prim.Native.Nat.{ℕ, ◌+◌, ◌*◌, ◌-◌, ◌≤◌, ◌<◌}
 use native.Mathlib.Nat.{le_trans, mul-le-mul_left, mul-le-mul_right, add-mul}
 use native.Mathlib.Omega.{arith}
@@ -16,9 +16,9 @@ use Rattle.integers.specs.Rounding.{to_grain}
 use Rattle.integers.proofs.SumLaws.{wsum-within}
 use Rattle.integers.specs.Promises.{largest_quotient}
 use Rattle.rows.specs.Table.{Table, row_for, middle_row, row_weight, denominator}
-use Rattle.filters.specs.declared.Shape.{Shape}
 use Rattle.filters.specs.Filter.{dot, weighted_sum, by_row}
-use Rattle.filters.specs.Promises.{largest, largest_norm, largest_over, most_side, most_step, most_width, most_row_step, table_of, Dots, Readable, Served, alike, months_each}
+use Rattle.rows.specs.Stored.{largest_norm, largest_over, most_side, most_step, most_width, most_row_step, Readable}
+use Rattle.filters.specs.Promises.{largest, Dots, Served}
 use Rattle.filters.proofs.Light.{Light}
 
 pub denominator-limits : (F : Table) → Readable F → (r : ℕ) → (1 ≤ denominator F r) × (denominator F r ≤ largest_over)
@@ -73,27 +73,6 @@ in_middle F r e = rw (eq-eqb r (F.side * F.row_step) e)
 pub at-ends : (F : Table) (r : ℕ) → (r ≡ F.side * F.row_step → ⊥) → F.ends ≡ denominator F r
 unfolding denominator middle_row
 at-ends F r e = rw (ne_eqb r (F.side * F.row_step) e)
-
--- the rows that serve as many months each, and how many
-pub one_alike : (side turn : ℕ) → turn ≡ side → alike side turn ≡ 1
-unfolding alike
-one_alike side turn e = rw (eq-eqb turn side e)
-
-pub side-alike : (side turn : ℕ) → (turn ≡ side → ⊥) → alike side turn ≡ side
-unfolding alike
-side-alike side turn e = rw (ne_eqb turn side e)
-
-pub all-inside : (side step turn lo past : ℕ) → turn ≡ side → months_each side step turn lo past ≡ past - side * step - lo
-unfolding months_each
-all-inside side step turn lo past e = rw (eq-eqb turn side e)
-
-pub one-step : (side step turn lo past : ℕ) → (turn ≡ side → ⊥) → months_each side step turn lo past ≡ step
-unfolding months_each
-one-step side step turn lo past e = rw (ne_eqb turn side e)
-
-pub any-weights : (f : Shape) (r : ℕ) (rows : List ℤ) → denominator (table_of f []) r ≡ denominator (table_of f rows) r
-unfolding denominator middle_row
-any-weights f r rows = refl
 
 -- what is asked of a table, as tests that are computed
 abbrev pub Asked : Table → Type 0

@@ -3,5 +3,6 @@ pub mod Table
 pub mod MeanRows
 pub mod HendersonRows
 pub mod FilterTables
+pub mod Stored
 pub mod Henderson
 pub mod RowRules

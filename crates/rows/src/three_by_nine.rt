@@ -1,7 +1,11 @@
 // METHOD 2.8: the stored rows of 3x9, oldest value first: the full row in 27ths, the others over 748,440. Six rows each for none, one, .. five values
 // before: for five, four, .. none after. The shorter rows are filled up with zeros.
 
-pub const ROWS_3X9: [i64; 396] = [
+use crate::StoredTable;
+
+const OVER_3X9: usize = 748440;
+
+const ROWS_3X9: [i64; 396] = [
     // none before, five after
     138600, 138600, 138600, 138600, 110880, 83160, 0, 0, 0, 0, 0,
     // none before, four after
@@ -76,10 +80,23 @@ pub const ROWS_3X9: [i64; 396] = [
     83160, 110880, 138600, 138600, 138600, 138600, 0, 0, 0, 0, 0,
 ];
 
-pub const SIDE_3X9: usize = 5;
+pub const THREE_BY_NINE: StoredTable = StoredTable {
+    side: 5,
+    row_step: 6,
+    step: refusals::MONTHS_OF_YEAR,
+    width: 11,
+    rows: &ROWS_3X9,
+    middle: 27,
+    ends: OVER_3X9,
+};
 
-pub const ROW_STEP_3X9: usize = 6;
-
-pub const MIDDLE_3X9: usize = 27;
-
-pub const ENDS_3X9: usize = 748440;
+// For runs of fewer than ten values, where no place has the full row: all rows are over one number, which the compiler then knows.
+pub const SHORT_THREE_BY_NINE: StoredTable = StoredTable {
+    side: 5,
+    row_step: 6,
+    step: refusals::MONTHS_OF_YEAR,
+    width: 11,
+    rows: &ROWS_3X9,
+    middle: OVER_3X9,
+    ends: OVER_3X9,
+};

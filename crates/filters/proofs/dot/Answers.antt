@@ -8,7 +8,7 @@ use Rattle.integers.specs.Lists.{◌‼◌}
 use Rattle.integers.specs.Sums.{norm}
 use Rattle.integers.proofs.SumLaws.{self_within, sum-zero, sum_more, sum_n-more, sum_n-upto}
 use Rattle.filters.specs.Filter.{dot}
-use Rattle.filters.specs.Promises.{largest_norm, largest_over}
+use Rattle.rows.specs.Stored.{largest_norm, largest_over}
 use Rattle.filters.proofs.dot.Lts as lts
 use Rattle.filters.proofs.dot.Reads as reads
 use Rattle.filters.proofs.dot.Goals as goal

@@ -1,11 +1,33 @@
--- `filters::henderson` meets its contract: each arm has the filter of its length.
+-- `filters::henderson` meets its contract: each arm fills all months by the stored rows of its length.
+use mathlib.Core.Path.{refl}
+use Rattle.integers.specs.Sums.{sum_n}
+use Rattle.rows.specs.Table.{middle_row, row_count, row_weight, denominator}
+use Rattle.integers.proofs.FillingLaws.{filled-tab}
+use Rattle.rows.specs.FilterTables.{table_henderson, over_henderson}
+use Rattle.filters.specs.Filter.{filter}
+use Rattle.filters.proofs.Stored.{readable_rows}
 use Rattle.filters.proofs.henderson.Goals as goal
 
+pub invariant_of-fill_months : goal.invariant_of-fill_months
+unfolding middle_row row_count row_weight denominator sum_n
+invariant_of-fill_months c = record { readable = readable_rows _ over_henderson (tt, tt, tt, tt, tt, tt, tt, tt, tt, tt, tt) tt }
+
+pub invariant_of-fill_months-in-Thirteen : goal.invariant_of-fill_months-in-Thirteen
+unfolding middle_row row_count row_weight denominator sum_n
+invariant_of-fill_months-in-Thirteen c = record { readable = readable_rows _ over_henderson (tt, tt, tt, tt, tt, tt, tt, tt, tt, tt, tt) tt }
+
+pub invariant_of-fill_months-in-TwentyThree : goal.invariant_of-fill_months-in-TwentyThree
+unfolding middle_row row_count row_weight denominator sum_n
+invariant_of-fill_months-in-TwentyThree c = record { readable = readable_rows _ over_henderson (tt, tt, tt, tt, tt, tt, tt, tt, tt, tt, tt) tt }
+
 pub returns-in-Nine : goal.returns-in-Nine
-returns-in-Nine c = rw c.in-Nine.is c.henderson_9.ensures
+unfolding table_henderson filter
+returns-in-Nine c = rw c.in-Nine.is (filled-tab c.fill_months.ensures refl c.requires.2)
 
 pub returns-in-Thirteen : goal.returns-in-Thirteen
-returns-in-Thirteen c = rw c.in-Thirteen.is c.henderson_13.ensures
+unfolding table_henderson filter
+returns-in-Thirteen c = rw c.in-Thirteen.is (filled-tab c.fill_months-in-Thirteen.ensures refl c.requires.2)
 
 pub returns-in-TwentyThree : goal.returns-in-TwentyThree
-returns-in-TwentyThree c = rw c.in-TwentyThree.is c.henderson_23.ensures
+unfolding table_henderson filter
+returns-in-TwentyThree c = rw c.in-TwentyThree.is (filled-tab c.fill_months-in-TwentyThree.ensures refl c.requires.2)

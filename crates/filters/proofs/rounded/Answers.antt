@@ -8,7 +8,7 @@ use mir.Syntax.{w64}
 use mir.Val.{to_z}
 use Rattle.integers.proofs.Signed64.{Reads, i_arg, i_cast, kept, rounds}
 use Rattle.integers.specs.Rounding.{to_grain}
-use Rattle.filters.specs.Promises.{largest_over}
+use Rattle.rows.specs.Stored.{largest_over}
 use Rattle.filters.proofs.rounded.Lts as lts
 use Rattle.filters.proofs.rounded.Tie as tie
 use Rattle.filters.proofs.rounded.Reads as reads

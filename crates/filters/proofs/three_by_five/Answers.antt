@@ -1,13 +1,14 @@
--- `filters::three_by_five` meets its contract: the month-run step by the rows of 3×5.
-use Rattle.rows.specs.declared.SeasonalFilter.TheVariants.{ThreeByFive}
+-- `filters::three_by_five` meets its contract: the months by the stored rows of 3×5.
+use Rattle.integers.specs.Sums.{sum_n}
+use Rattle.rows.specs.Table.{middle_row, row_count, row_weight, denominator}
 use Rattle.rows.specs.FilterTables.{table_seasonal}
-use Rattle.filters.proofs.Stored.{readable_seasonal}
+use Rattle.filters.proofs.Stored.{readable_rows}
 use Rattle.filters.proofs.three_by_five.Goals as goal
 
-pub month_runs-requires : goal.month_runs-requires
-unfolding table_seasonal
-month_runs-requires c = (record { readable = readable_seasonal ThreeByFive; enough = c.requires.1; filterable = c.requires.0 }, c.requires.2)
+pub invariant_of-fill_months : goal.invariant_of-fill_months
+unfolding middle_row row_count row_weight denominator sum_n
+invariant_of-fill_months c = record { readable = readable_rows _ 60 (tt, tt, tt, tt, tt, tt, tt, tt, tt, tt, tt) tt }
 
 pub returns : goal.returns
 unfolding table_seasonal
-returns c = c.month_runs.ensures
+returns c = c.fill_months.ensures

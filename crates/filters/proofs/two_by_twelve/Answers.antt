@@ -1,14 +1,13 @@
--- `filters::two_by_twelve` meets its contract: the months with six values on each side by the row of 2×12.
-use native.Mathlib.Omega.{arith}
-use Rattle.integers.specs.Sums.{sum_z}
+-- `filters::two_by_twelve` meets its contract: the months with six values on each side by the stored row of 2×12.
+use Rattle.integers.specs.Sums.{sum_n}
 use Rattle.rows.specs.Table.{middle_row, row_count, row_weight, denominator}
 use Rattle.rows.specs.FilterTables.{table2x12}
-use Rattle.filters.proofs.Stored.{readable_means}
+use Rattle.filters.proofs.Stored.{readable_rows}
 use Rattle.filters.proofs.two_by_twelve.Goals as goal
 
-pub fill_inside-requires : goal.fill_inside-requires
-unfolding middle_row row_count row_weight denominator sum_z
-fill_inside-requires c = (record { readable = readable_means _ 24 (tt, tt, tt, tt, tt, tt, tt, tt, tt, tt, tt) tt; enough = omega (arith, c.requires.1); filterable = c.requires.0 }, c.requires.2)
+pub invariant_of-fill_inside : goal.invariant_of-fill_inside
+unfolding middle_row row_count row_weight denominator sum_n
+invariant_of-fill_inside c = record { readable = readable_rows _ 24 (tt, tt, tt, tt, tt, tt, tt, tt, tt, tt, tt) tt }
 
 pub returns : goal.returns
 unfolding table2x12
