@@ -22,12 +22,11 @@ table_of f = record { side = f.side; row_step = f.row_step; step = f.step; width
 abbrev pub over_ends : Table → Table
 over_ends F = record { side = F.side; row_step = F.row_step; step = F.step; width = F.width; rows = F.rows; middle = F.ends; ends = F.ends }
 
--- m weights from `at` on, and the values that they meet
-pub record Dots (w : List ℤ) (at m : ℕ) (x : List ℤ) (from step : ℕ) : Type 0 where
-  pub room : at + m ≤ length w
-  pub light : norm m (λ k. w ‼ (at + k)) * 1000 ≤ largest_norm * largest_over
-  pub places : (k : ℕ) → k < m → from + k * step < length x
-  pub small : (k : ℕ) → k < m → (x ‼ (from + k * step)) within largest
+-- weights, and the values that they meet
+pub record Dots (w x : List ℤ) (from step : ℕ) : Type 0 where
+  pub light : norm (length w) (λ k. w ‼ k) * 1000 ≤ largest_norm * largest_over
+  pub places : (k : ℕ) → k < length w → from + k * step < length x
+  pub small : (k : ℕ) → k < length w → (x ‼ (from + k * step)) within largest
 
 -- a series that can be filtered
 pub record Filterable (x : List ℤ) : Type 0 where

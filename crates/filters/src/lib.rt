@@ -22,15 +22,15 @@ use rows::mean_rows::{THREE_BY_FIVE, THREE_BY_THREE, TWO_BY_TWELVE};
 use rows::three_by_nine::{SHORT_THREE_BY_NINE, THREE_BY_NINE};
 use rows::{SeasonalFilter, StoredTable, Terms};
 
-// The sum of w[at + k] * x[from + k * step] over k < m.
+// The sum of weights[k] * x[from + k * step] over the weights.
 #[inline(always)]
-fn dot(w: &[i64], at: usize, m: usize, x: &[i64], from: usize, step: usize) -> i64
-    requires { Dots w.now at m x.now from step }
-    ensures { result ≡ dot m (λ k. w.now ‼ (at + k)) x.now from step }
+fn dot(weights: &[i64], x: &[i64], from: usize, step: usize) -> i64
+    requires { Dots weights.now x.now from step }
+    ensures { result ≡ dot (length weights.now) (λ k. weights.now ‼ k) x.now from step }
 {
     let mut sum: i64 = 0;
-    for k in 0..m {
-        sum += w[at + k] * x[from + k * step];
+    for (k, weight) in weights.iter().enumerate() {
+        sum += *weight * x[from + k * step];
     }
     sum
 }
@@ -63,8 +63,9 @@ fn by_row(f: StoredTable, x: &[i64], earlier: usize, later: usize, t: usize) -> 
     ensures { result ≡ by_row (table_of f) earlier later x.now t }
 {
     let row = earlier * f.row_step + (f.side - later);
-    let from = t - earlier * f.step;
-    let sum = dot(f.rows, row * f.width, earlier + 1 + later, x, from, f.step);
+    let at = row * f.width;
+    let weights = &f.rows[at..at + earlier + 1 + later];
+    let sum = dot(weights, x, t - earlier * f.step, f.step);
     rounded(sum, denominator(f, row))
 }
 

@@ -14,9 +14,9 @@ pub rounded-requires : goal.rounded-requires
 unfolding row_for
 rounded-requires c = let a = c.args in let F = table_of a.f in let over = c.denominator.ensures in
     let l = window.denominator-limits F a.f.readable (row_for F a.earlier a.later) in
-    (i_within (i_call c.dot-sum.type_inv c.dot-sum.ensures (rw over (window.sum-within F a.x.now a.t a.earlier a.later a.f.readable c.requires.0))), omega (arith, l, over), omega (arith, l, over))
+    (rw over (window.sum-within F a.x.now a.t a.earlier a.later a.f.readable c.requires.0 (kept c.dot-sum.type_inv c.dot-sum.ensures)), omega (arith, l, over), omega (arith, l, over))
 
 pub returns : goal.returns
 unfolding row_for
 returns c = let a = c.args in
-    window.value_is (table_of a.f) a.x.now a.t a.earlier a.later a.f.readable c.requires.0 c.denominator.result (kept c.dot-sum.type_inv c.dot-sum.ensures) c.denominator.ensures (kept c.rounded.type_inv c.rounded.ensures)
+    window.value_is (table_of a.f) a.x.now a.t a.earlier a.later a.f.readable c.requires.0 (kept c.dot-sum.type_inv c.dot-sum.ensures) c.denominator.result c.denominator.ensures (kept c.rounded.type_inv c.rounded.ensures)
