@@ -23,7 +23,6 @@ use rows::three_by_nine::{SHORT_THREE_BY_NINE, THREE_BY_NINE};
 use rows::{SeasonalFilter, StoredTable, Terms};
 
 // The sum of weights[k] * x[from + k * step] over the weights.
-#[inline(always)]
 fn dot(weights: &[i64], x: &[i64], from: usize, step: usize) -> i64
     requires { Dots weights.now x.now from step }
     ensures { result ≡ dot (length weights.now) (λ k. weights.now ‼ k) x.now from step }
@@ -36,7 +35,6 @@ fn dot(weights: &[i64], x: &[i64], from: usize, step: usize) -> i64
 }
 
 // A weighted sum over its row's denominator, rounded once.
-#[inline(always)]
 fn rounded(sum: i64, d: usize) -> i64
     requires { (sum within largest_quotient * d) × (1 ≤ d) × (d ≤ largest_over) }
     ensures { result ≡ to_grain sum d }
@@ -45,7 +43,6 @@ fn rounded(sum: i64, d: usize) -> i64
 }
 
 // The denominator of a row: the middle one has its own.
-#[inline(always)]
 fn denominator(f: StoredTable, row: usize) -> usize
     ensures { result ≡ denominator (table_of f) row }
 {
