@@ -54,7 +54,6 @@ fn denominator(f: StoredTable, row: usize) -> usize
 }
 
 // The filter's value at place t by the row for so many values before and after it.
-#[inline(always)]
 fn by_row(f: StoredTable, x: &[i64], earlier: usize, later: usize, t: usize) -> i64
     requires { Served (table_of f) earlier later t x.now × (length x.now ≤ most_months) }
     ensures { result ≡ by_row (table_of f) earlier later x.now t }
@@ -67,7 +66,6 @@ fn by_row(f: StoredTable, x: &[i64], earlier: usize, later: usize, t: usize) -> 
 }
 
 // The filter at the places from lo to below hi, which one row serves: no place asks for its row.
-#[inline(always)]
 fn fill_row(
     f: StoredTable,
     x: &[i64],
@@ -133,7 +131,6 @@ fn fill_months(f: StoredTable, first: usize, past: usize, x: &[i64], out: &mut [
 }
 
 // The same month by month, each by the row for its own counts, where the months are too few for rows in turn: a place may be short on both sides.
-#[inline(always)]
 fn fill_short(f: StoredTable, first: usize, past: usize, x: &[i64], out: &mut [i64])
     requires { FilterableMonths first past x.now × (first ≤ past) × (length out.old ≡ length x.now) }
     ensures { FilteredMonths (table_of f) first past x.now out.old out.new }
