@@ -13,7 +13,7 @@ use Rattle.integers.proofs.FillingLaws.{length-tab, at-tab, tab-same}
 use Rattle.chart.specs.Chart.{Starts, column_of, first_in, in_column, place, month_order, order_of_t}
 use Rattle.chart.proofs.Places.{mod-of, div-of, first_below, column-below, place-below, place-cell, outside, month-cell, in-its-column, all_columns}
 use Rattle.chart.proofs.Rearranging.{length-order_of_t, at-order_of_t, at-place, columns_again}
-use Rattle.chart.specs.Promises.{Follows}
+use Rattle.chart.specs.Promises.{Follows, Stands, Reached}
 
 -- ---- what loops need
 -- a list made place by place, back in the order of months
@@ -74,11 +74,7 @@ module _ (p s : ℕ) (v : Starts p s) (n : ℕ) where
           let m : column_of p s t + 1 ≡ p = omega (arith, column-below p s v t) in
           absurd (omega (arith, last t h e, all_columns p s v n, ap (λ (j : ℕ). sum_n j (in_column p s n)) m))
 
--- what a loop keeps that writes in month order: month t is the one at place i, while there is one
-pub record Reached (p s n i t : ℕ) : Type 0 where
-  pub inside : t < n
-  pub here : i < n → place p s n t ≡ i
-
+-- how far a loop has come that goes on in month order
 module _ {p s n : ℕ} where
   pub reached_first : {t : ℕ} → Starts p s → p ≤ n → t ≡ first_in p s 0 → Reached p s n 0 t
   reached_first v h e = record { inside = omega (arith, e, first_below p s v 0); here = λ _. ap (place p s n) e ∙ first-place p s v n }

@@ -209,3 +209,9 @@ module _ (p s : ℕ) (v : Starts p s) where
 
     pub place-onto : (i : ℕ) → i < n → StandsAt p s n i
     place-onto i h = search-column p (omega arith) i (omega (arith, all_columns))
+
+    -- the place as code computes it, and that it is one of n
+    pub place_computed : (t c before : ℕ) → t < n → c ≡ column_of p s t → before ≡ sum_n c (in_column p s n)
+        → (before + t / p ≡ place p s n t) × (before + t / p < n)
+    unfolding place
+    place_computed t c before h e b = rw (b, e) (refl, place-below t h)

@@ -1,32 +1,31 @@
 -- Laws of the arrays of a desk file: their lengths, their values by month, and how they are stored in month order.
-use Prim.Native.Nat.{ℕ, ◌+◌, ◌*◌, min, ◌<◌, ◌≤◌}
+use Prim.Native.Nat.{ℕ, ◌+◌, ◌*◌, ◌^◌, min, ◌<◌, ◌≤◌}
 use mathlib.Core.Path.{◌≡◌, refl, sym, ap, ◌∙◌}
-use mathlib.Core.Bool.{Bool, true, false, cond, not}
+use mathlib.Core.Bool.{Bool, true, false, not}
 use mathlib.Core.Logic.{⊎_elim}
 use mathlib.Core.List.{List, ◌++◌}
 use native.Mathlib.Nat.{add-zero, mul-zero, mul-suc, mul-le-mul_left}
 use native.Mathlib.Decide.{dec_le, ℕ_discrete}
 use native.Mathlib.Omega.{arith}
-use borrow.Author.Tests.{not-true, not-false, lt-ltb, le-ltb}
-use lib.Dec.{ltb}
 use lib.IntN.{ℤ}
 use lib.ListN.{length, get_or, set, drop, length-set}
 use lib.Seq.{sets, length-sets, get_or-set_same, get_or-set_other}
+use Rattle.std.specs.Prelude.{Option, Some, None, IfSome, unwrap_or}
 use Rattle.integers.specs.Lists.{tab}
 use Rattle.integers.specs.Filling.{Filled}
-use Rattle.integers.proofs.FillingLaws.{length-tab, filled_front}
-use Rattle.refusals.specs.declared.Found.TheVariants.{At, Nowhere}
+use Rattle.integers.proofs.FillingLaws.{length-tab, at-tab, filled_front}
 use Rattle.refusals.specs.First.{first_failing}
-use Rattle.refusals.proofs.FirstLaws.{NoneBefore, first_here, first-none}
-use Rattle.little_endian.specs.Bytes.{bytes_of, number_at, word, array}
-use Rattle.little_endian.proofs.ArrayLaws.{length-array, array-more, array-none}
-use Rattle.chart.specs.Chart.{Starts, first_in, place, month_order, order_of_t}
-use Rattle.chart.specs.Promises.{Charted, Follows}
+use Rattle.refusals.proofs.FirstLaws.{first_here, first-none}
+use Rattle.little_endian.specs.Bytes.{AreBytes, bytes_of, number_at, word, signed, array}
+use Rattle.little_endian.proofs.NumberLaws.{number_small}
+use Rattle.little_endian.proofs.ArrayLaws.{length-array, array-more, array-none, array_same}
+use Rattle.chart.specs.Chart.{Starts, place, month_order, order_of_t}
+use Rattle.chart.specs.Promises.{Stands}
 use Rattle.chart.proofs.Places.{place-below}
-use Rattle.chart.proofs.Rearranging.{length-month_order, place-one}
-use Rattle.chart.proofs.Loops.{length-order_of_t-tab, at-order_of_t-tab, order_of_t-tab, Reached, reached_first, reached_next, reached_value}
+use Rattle.chart.proofs.Rearranging.{length-month_order, length-order_of_t, place-one, at-place, month_order-pair, order_of_t-pair}
+use Rattle.chart.proofs.Loops.{length-order_of_t-tab, at-order_of_t-tab, order_of_t-tab}
 use Rattle.desk_arrays.specs.Arrays.{stored_figure, stored_weight, figures_at, weights_at, figures_bytes, weights_bytes}
-use Rattle.desk_arrays.specs.Promises.{Lies, numbers_at}
+use Rattle.desk_arrays.specs.Promises.{numbers_at, entries_at}
 
 -- ---- lengths
 module _ (file : List ℕ) (from n : ℕ) where
@@ -37,6 +36,15 @@ module _ (file : List ℕ) (from n : ℕ) where
   pub length-weights_at : length (weights_at file from n) ≡ n
   unfolding weights_at
   length-weights_at = length-tab n (stored_weight file from)
+
+  -- the two kinds of entries
+  pub figures_are : entries_at 4 signed file from n ≡ figures_at file from n
+  unfolding entries_at figures_at stored_figure
+  figures_are = refl
+
+  pub weights_are : entries_at 2 (λ w. w) file from n ≡ weights_at file from n
+  unfolding entries_at weights_at stored_weight
+  weights_are = refl
 
 pub length-numbers_at : (width : ℕ) (file : List ℕ) (from n : ℕ) → length (numbers_at width file from n) ≡ n
 unfolding numbers_at
@@ -50,125 +58,104 @@ pub length-weights_bytes : (weights : List ℕ) → length (weights_bytes weight
 unfolding weights_bytes
 length-weights_bytes weights = length-array 2 (λ w. w) weights
 
--- a number of an array that lies in a slice lies in it
-pub part_fits : (from width n long i : ℕ) → from + width * n ≤ long → i < n → from + width * i + width ≤ long
-part_fits from width n long i h l = omega (arith, mul-le-mul_left width l, mul-suc width i)
+-- an entry of an array that lies in a slice lies in it
+pub part_fits : (from width n long i : ℕ) → from + width * n ≤ long → i < n → from + width * (i + 1) ≤ long
+part_fits from width n long i h l = omega (arith, mul-le-mul_left width l)
 
 -- ---- place by place, with the month that stands there: an array f 0, .., f (n - 1) in month order
 -- a month that stands before place i + 1 and is not the one at place i stands before that
-earlier : (p s n i t u : ℕ) → Starts p s → Reached p s n i t → i < n → u < n → place p s n u < i + 1 → (u ≡ t → ⊥) → place p s n u < i
-earlier p s n i t u v q h k l m =
-    let apart : place p s n u ≡ i → ⊥ = λ e. m (place-one p s v n u t k q.inside (e ∙ sym (q.here h))) in
+earlier : (p s n i t u : ℕ) → Starts p s → Stands p s n i t → u < n → place p s n u < i + 1 → (u ≡ t → ⊥) → place p s n u < i
+earlier p s n i t u v q k l m =
+    let apart : place p s n u ≡ i → ⊥ = λ e. m (place-one p s v n u t k q.inside (e ∙ sym q.here)) in
     omega arith
 
--- low is the lowest month whose value is bad, of those before place i, and n where there is none; month t stands at place i
-pub record Lowest {A : Type 0} (test : A → Bool) (f : ℕ → A) (p s n i t low : ℕ) : Type 0 where
-  pub charted : Charted p s n
-  pub reached : Reached p s n i t
-  pub most : low ≤ n
-  pub bad : low < n → test (f (place p s n low)) ≡ false
-  pub passed : (u : ℕ) → u < n → place p s n u < i → u < low → test (f (place p s n u)) ≡ true
+-- the months before place i are looked at: `lowest` is the lowest of them whose value is bad, where there is one
+pub record Lowest {A : Type 0} (test : A → Bool) (f : ℕ → A) (p s n i : ℕ) (lowest : Option ℕ) : Type 0 where
+  pub bad : IfSome lowest (λ t. (t < n) × (test (f (place p s n t)) ≡ false))
+  pub passed : (u : ℕ) → u < n → place p s n u < i → IfSome lowest (λ t. u < t) → test (f (place p s n u)) ≡ true
 
-module _ {A : Type 0} {test : A → Bool} {f : ℕ → A} {p s n : ℕ} where
-  pub lowest_none : {t : ℕ} → Charted p s n → t ≡ first_in p s 0 → Lowest test f p s n 0 t n
-  lowest_none c e = record {
-    charted = c;
-    reached = reached_first c.starts c.full e;
-    most = omega arith;
-    bad = λ h. absurd (omega arith);
-    passed = λ u a b h. absurd (omega arith);
-  }
+module _ {A : Type 0} {test : A → Bool} {f : ℕ → A} {p s n : ℕ} (v : Starts p s) where
+  pub lowest_none : Lowest test f p s n 0 None
+  lowest_none = record { bad = tt; passed = λ u a b h. absurd (omega arith) }
 
-  -- one value more, v; the code's test says whether it fails
-  pub lowest_more : {i t r low next : ℕ} {v : A} {fails : Bool} → Lowest test f p s n i t low → i < n → v ≡ f i → fails ≡ not (test v) → next ≡ cond fails (min t low) low
-      → Follows p s n t r → Lowest test f p s n (i + 1) r next
-  lowest_more {i} {t} {r} {low} {next} {v} {fails} q h e k m g = record {
-    charted = q.charted;
-    reached = reached_next q.reached h g;
-    most = most fails m;
-    bad = λ l. bad fails k m (dec_le t low) l;
-    passed = λ u a b l. passed fails k m u a b l (ℕ_discrete u t);
-  }
+  -- one value more, x, which passes or fails
+  pub lowest_passed : {i t : ℕ} {lowest : Option ℕ} {x : A} → Lowest test f p s n i lowest → Stands p s n i t → x ≡ f i → test x ≡ true → Lowest test f p s n (i + 1) lowest
+  lowest_passed {i} {t} {lowest} q k e h = record { bad = q.bad; passed = λ u a b l. at u a b l (ℕ_discrete u t) }
     where
-      here : test (f (place p s n t)) ≡ test v
-      here = ap test (ap f (q.reached.here h) ∙ sym e)
+      at : (u : ℕ) → u < n → place p s n u < i + 1 → IfSome lowest (λ t. u < t) → Dec (u ≡ t) → test (f (place p s n u)) ≡ true
+      at u a b l (yes z) = ap test (ap f (ap (place p s n) z ∙ k.here) ∙ sym e) ∙ h
+      at u a b l (no z) = q.passed u a (earlier p s n i t u v k a b z) l
 
-      most : (b : Bool) → next ≡ cond b (min t low) low → next ≤ n
-      most true m = omega (arith, q.most)
-      most false m = omega (arith, q.most)
-
-      bad : (b : Bool) → b ≡ not (test v) → next ≡ cond b (min t low) low → Dec (t ≤ low) → next < n → test (f (place p s n next)) ≡ false
-      bad true k m (yes a) l = let z : next ≡ t = omega arith in rw z (here ∙ not-true (test v) (sym k))
-      bad true k m (no a) l = let z : next ≡ low = omega arith in rw z (q.bad (omega arith))
-      bad false k m a l = rw m (q.bad (omega arith))
-
-      passed : (b : Bool) → b ≡ not (test v) → next ≡ cond b (min t low) low → (u : ℕ) → u < n → place p s n u < i + 1 → u < next → Dec (u ≡ t) → test (f (place p s n u)) ≡ true
-      passed true k m u a c l (yes z) = absurd (omega arith)
-      passed true k m u a c l (no z) = q.passed u a (earlier p s n i t u q.charted.starts q.reached h a c z) (omega arith)
-      passed false k m u a c l (yes z) = rw z (here ∙ not-false (test v) (sym k))
-      passed false k m u a c l (no z) = q.passed u a (earlier p s n i t u q.charted.starts q.reached h a c z) (omega arith)
-
-  pub lowest_told : {i t low : ℕ} (d : A) → Lowest test f p s n i t low → n ≤ i → cond (ltb low n) (At low) Nowhere ≡ first_failing test (order_of_t d p s (tab n f))
-  lowest_told {i} {t} {low} d q h = by (dec_le (low + 1) n)
+  pub lowest_failed : {i t : ℕ} {lowest : Option ℕ} {x : A} → Lowest test f p s n i lowest → Stands p s n i t → x ≡ f i → test x ≡ false
+      → Lowest test f p s n (i + 1) (Some (min t (unwrap_or lowest t)))
+  lowest_failed {i} {t} {lowest} {x} q k e h = record { bad = bad lowest q.bad; passed = λ u a b l. q.passed u a (before u a b (below lowest u l)) (lower lowest u l) }
     where
-      v : Starts p s
-      v = q.charted.starts
+      here : test (f (place p s n t)) ≡ false
+      here = ap test (ap f k.here ∙ sym e) ∙ h
 
-      before : NoneBefore d test (order_of_t d p s (tab n f)) low
-      before = record { each = λ u l. let k : u < n = omega (arith, q.most) in ap test (at-order_of_t-tab d p s v n f u k) ∙ q.passed u k (omega (arith, place-below p s v n u k)) l }
+      bad : (low : Option ℕ) → IfSome low (λ t. (t < n) × (test (f (place p s n t)) ≡ false))
+          → (min t (unwrap_or low t) < n) × (test (f (place p s n (min t (unwrap_or low t)))) ≡ false)
+      bad None a = let z : min t t ≡ t = omega arith in rw z (k.inside, here)
+      bad (Some low) a = by (dec_le t low)
+        where
+          by : Dec (t ≤ low) → (min t low < n) × (test (f (place p s n (min t low))) ≡ false)
+          by (yes l) = let z : min t low ≡ t = omega arith in rw z (k.inside, here)
+          by (no l) = let z : min t low ≡ low = omega arith in rw z a
 
-      by : Dec (low + 1 ≤ n) → cond (ltb low n) (At low) Nowhere ≡ first_failing test (order_of_t d p s (tab n f))
-      by (yes l) =
-          let k : low < n = omega arith in
-          rw (lt-ltb low n k) (first_here before (rw (length-order_of_t-tab d p s v n f) k) (at-order_of_t-tab d p s v n f low k) refl (ap not (q.bad k)))
-      by (no l) = rw (le-ltb low n (omega arith)) (first-none before (omega (arith, length-order_of_t-tab d p s v n f, q.most)))
+      below : (low : Option ℕ) (u : ℕ) → u < min t (unwrap_or low t) → u < t
+      below None u l = omega arith
+      below (Some low) u l = omega arith
 
--- a slice filled by month: the months before place i hold their values, and what is past the n months is as it was; month t stands at place i
-pub record WalkFilled {A : Type 0} (d : A) (f : ℕ → A) (p s n i t : ℕ) (old new : List A) : Type 0 where
-  pub charted : Charted p s n
-  pub room : n ≤ length old
-  pub reached : Reached p s n i t
+      lower : (low : Option ℕ) (u : ℕ) → u < min t (unwrap_or low t) → IfSome low (λ t. u < t)
+      lower None u l = tt
+      lower (Some low) u l = omega arith
+
+      before : (u : ℕ) → u < n → place p s n u < i + 1 → u < t → place p s n u < i
+      before u a b l = earlier p s n i t u v k a b (λ z. omega arith)
+
+  pub lowest_told : {i : ℕ} {lowest : Option ℕ} (d : A) → Lowest test f p s n i lowest → n ≤ i → lowest ≡ first_failing test (order_of_t d p s (tab n f))
+  lowest_told {i} {lowest} d q h = by lowest q.bad q.passed
+    where
+      by : (low : Option ℕ) → IfSome low (λ t. (t < n) × (test (f (place p s n t)) ≡ false))
+          → ((u : ℕ) → u < n → place p s n u < i → IfSome low (λ t. u < t) → test (f (place p s n u)) ≡ true)
+          → low ≡ first_failing test (order_of_t d p s (tab n f))
+      by None b a =
+          first-none (record { each = λ u l. let k : u < n = omega (arith, length-order_of_t-tab d p s v n f) in ap test (at-order_of_t-tab d p s v n f u k) ∙ a u k (omega (arith, place-below p s v n u k)) tt }) refl
+      by (Some low) b a =
+          first_here (record { each = λ u l. let k : u < n = omega arith in ap test (at-order_of_t-tab d p s v n f u k) ∙ a u k (omega (arith, place-below p s v n u k)) l })
+          (omega (arith, length-order_of_t-tab d p s v n f)) (at-order_of_t-tab d p s v n f low b.0) refl (ap not b.1)
+
+-- a slice filled by month: the months before place i hold their values, and what is past the n months is as it was
+pub record WalkFilled {A : Type 0} (d : A) (f : ℕ → A) (p s n i : ℕ) (old new : List A) : Type 0 where
   pub long : length new ≡ length old
   pub here : (u : ℕ) → u < n → place p s n u < i → get_or new u d ≡ f (place p s n u)
   pub rest : (u : ℕ) → n ≤ u → get_or new u d ≡ get_or old u d
 
 module _ {A : Type 0} {d : A} {f : ℕ → A} {p s n : ℕ} {old : List A} where
-  pub walk_none : {t : ℕ} → Charted p s n → n ≤ length old → t ≡ first_in p s 0 → WalkFilled d f p s n 0 t old old
-  walk_none c h e = record {
-    charted = c;
-    room = h;
-    reached = reached_first c.starts c.full e;
-    long = refl;
-    here = λ u a b. absurd (omega arith);
-    rest = λ u a. refl;
-  }
+  pub walk_none : WalkFilled d f p s n 0 old old
+  walk_none = record { long = refl; here = λ u a b. absurd (omega arith); rest = λ u a. refl }
 
-  pub walk_more : {i t r : ℕ} {v : A} {new : List A} → WalkFilled d f p s n i t old new → i < n → v ≡ f i → Follows p s n t r → WalkFilled d f p s n (i + 1) r old (set new t v)
-  walk_more {i} {t} {r} {v} {new} q h e g = record {
-    charted = q.charted;
-    room = q.room;
-    reached = reached_next q.reached h g;
-    long = length-set new t v ∙ q.long;
-    here = λ u a b. at u a b (ℕ_discrete u t);
-    rest = λ u a. get_or-set_other new t u v d (λ z. omega (arith, q.reached.inside)) ∙ q.rest u a;
-  }
-    where
-      at : (u : ℕ) → u < n → place p s n u < i + 1 → Dec (u ≡ t) → get_or (set new t v) u d ≡ f (place p s n u)
-      at u a b (yes z) = rw z (get_or-set_same new t v d (omega (arith, q.reached.inside, q.room, q.long)) ∙ e ∙ ap f (sym (q.reached.here h)))
-      at u a b (no z) = get_or-set_other new t u v d z ∙ q.here u a (earlier p s n i t u q.charted.starts q.reached h a b z)
+  module _ (v : Starts p s) (room : n ≤ length old) where
+    pub walk_more : {i t : ℕ} {x : A} {new : List A} → WalkFilled d f p s n i old new → Stands p s n i t → x ≡ f i → WalkFilled d f p s n (i + 1) old (set new t x)
+    walk_more {i} {t} {x} {new} q k e = record {
+      long = length-set new t x ∙ q.long;
+      here = λ u a b. at u a b (ℕ_discrete u t);
+      rest = λ u a. get_or-set_other new t u x d (λ z. omega (arith, k.inside)) ∙ q.rest u a;
+    }
+      where
+        at : (u : ℕ) → u < n → place p s n u < i + 1 → Dec (u ≡ t) → get_or (set new t x) u d ≡ f (place p s n u)
+        at u a b (yes z) = rw z (get_or-set_same new t x d (omega (arith, k.inside, q.long)) ∙ e ∙ ap f (sym k.here))
+        at u a b (no z) = get_or-set_other new t u x d z ∙ q.here u a (earlier p s n i t u v k a b z)
 
-  pub walk_all : {i t : ℕ} {new : List A} → WalkFilled d f p s n i t old new → n ≤ i → new ≡ order_of_t d p s (tab n f) ++ drop n old
-  walk_all {i} {t} {new} q h = filled_front filled refl q.room ∙ ap (λ (xs : List A). xs ++ drop n old) (sym (order_of_t-tab d p s v n f))
-    where
-      v : Starts p s
-      v = q.charted.starts
-
-      filled : Filled d (λ u. f (place p s n u)) 0 n old new
-      filled = record {
-        long = q.long;
-        here = λ u a b. q.here u b (omega (arith, place-below p s v n u b));
-        rest = λ u a. q.rest u (⊎_elim (λ (l : u < 0). absurd (omega arith)) (λ l. l) a);
-      }
+    pub walk_all : {i : ℕ} {new : List A} → WalkFilled d f p s n i old new → n ≤ i → new ≡ order_of_t d p s (tab n f) ++ drop n old
+    walk_all {i} {new} q h = filled_front filled refl room ∙ ap (λ (xs : List A). xs ++ drop n old) (sym (order_of_t-tab d p s v n f))
+      where
+        filled : Filled d (λ u. f (place p s n u)) 0 n old new
+        filled = record {
+          long = q.long;
+          here = λ u a b. q.here u b (omega (arith, place-below p s v n u b));
+          rest = λ u a. q.rest u (⊎_elim (λ (l : u < 0). absurd (omega arith)) (λ l. l) a);
+        }
 
 -- the number of month t, of an array in month order
 pub number_of : (width : ℕ) (file : List ℕ) (from p s n t : ℕ) → Starts p s → t < n
@@ -177,45 +164,50 @@ unfolding numbers_at
 number_of width file from p s n t v h = at-order_of_t-tab 0 p s v n _ t h
 
 -- ---- a series xs of n months stored in month order, from byte `from` on
--- i values are stored, and month t is the next; d is what `get_or` gives past the end
-pub record Stored {A : Type 0} (d : A) (width : ℕ) (code : A → ℕ) (p s n : ℕ) (xs : List A) (from : ℕ) (old : List ℕ) (i t : ℕ) (new : List ℕ) : Type 0 where
-  pub lies : Lies old from width n p s
-  pub count : length xs ≡ n
-  pub up_to : i ≤ n
-  pub reached : Reached p s n i t
+-- i values are stored; d is what `get_or` gives past the end
+pub record Stored {A : Type 0} (d : A) (width : ℕ) (code : A → ℕ) (p s : ℕ) (xs : List A) (from : ℕ) (old : List ℕ) (i : ℕ) (new : List ℕ) : Type 0 where
   pub long : length new ≡ length old
   pub left : sets old from (array width code (month_order d p s xs)) ≡ sets new (from + width * i) (array width code (drop i (month_order d p s xs)))
 
-module _ {A : Type 0} {d : A} {width : ℕ} {code : A → ℕ} {p s n : ℕ} {xs : List A} {from : ℕ} {old : List ℕ} where
-  pub stored_none : {t : ℕ} → Lies old from width n p s → length xs ≡ n → t ≡ first_in p s 0 → Stored d width code p s n xs from old 0 t old
-  stored_none l e f = record {
-    lies = l;
-    count = e;
-    up_to = omega arith;
-    reached = reached_first l.charted.starts l.charted.full f;
-    long = refl;
-    left = rw (mul-zero, add-zero);
-  }
+module _ {A : Type 0} {d : A} {width : ℕ} {code : A → ℕ} {p s : ℕ} {xs : List A} {from : ℕ} {old : List ℕ} where
+  pub stored_none : Stored d width code p s xs from old 0 old
+  stored_none = record { long = refl; left = rw (mul-zero, add-zero) }
 
-  -- the bytes of the next value lie in the slice
-  pub stored_room : {i t : ℕ} {new : List ℕ} → Stored d width code p s n xs from old i t new → i < n → from + width * i + width ≤ length new
-  stored_room {i} q h = omega (arith, part_fits from width n (length old) i q.lies.room h, q.long)
+  module _ (v : Starts p s) where
+    pub stored_more : {i t value : ℕ} {new next : List ℕ} → Stored d width code p s xs from old i new → Stands p s (length xs) i t → value ≡ code (get_or xs t d)
+        → next ≡ sets new (from + width * i) (bytes_of width value) → Stored d width code p s xs from old (i + 1) next
+    stored_more {i} {t} {value} {new} {next} q k e m =
+        let ys = month_order d p s xs in
+        let here : code (get_or ys i d) ≡ value = ap code (ap (λ (j : ℕ). get_or ys j d) (sym k.here) ∙ at-place d p s v xs t k.inside) ∙ sym e in
+        let l : i < length ys = omega (arith, length-month_order d p s v xs, k.here, place-below p s v (length xs) t k.inside) in
+        record {
+          long = ap length m ∙ length-sets new (from + width * i) (bytes_of width value) ∙ q.long;
+          left = q.left ∙ array-more d width code ys new from i l ∙ rw (here, m);
+        }
 
-  pub stored_more : {i t r value : ℕ} {new next : List ℕ} → Stored d width code p s n xs from old i t new → i < n → value ≡ code (get_or xs t d)
-      → next ≡ sets new (from + width * i) (bytes_of width value) → Follows p s n t r → Stored d width code p s n xs from old (i + 1) r next
-  stored_more {i} {t} {r} {value} {new} {next} q h e k f =
-      let v = q.lies.charted.starts in
-      let ys = month_order d p s xs in
-      let here : code (get_or ys i d) ≡ value = ap code (reached_value d xs v q.count q.reached h) ∙ sym e in
-      record {
-        lies = q.lies;
-        count = q.count;
-        up_to = omega arith;
-        reached = reached_next q.reached h f;
-        long = ap length k ∙ length-sets new (from + width * i) (bytes_of width value) ∙ q.long;
-        left = q.left ∙ array-more d width code ys new from i (omega (arith, length-month_order d p s v xs, q.count)) ∙ rw (here, k);
-      }
+    pub stored_all : {i : ℕ} {new : List ℕ} → Stored d width code p s xs from old i new → length xs ≤ i → new ≡ sets old from (array width code (month_order d p s xs))
+    stored_all {i} {new} q h =
+        sym (q.left ∙ array-none d width code (month_order d p s xs) new from i (omega (arith, length-month_order d p s v xs)))
 
-  pub stored_all : {i t : ℕ} {new : List ℕ} → Stored d width code p s n xs from old i t new → n ≤ i → new ≡ sets old from (array width code (month_order d p s xs))
-  stored_all {i} {t} {new} q h =
-      sym (q.left ∙ array-none d width code (month_order d p s xs) new from i (omega (arith, length-month_order d p s q.lies.charted.starts xs, q.count)))
+-- ---- moved as numbers: the entries of an array, put into another order as numbers of so many bytes, are its entries
+module _ {A : Type 0} (d : A) (width : ℕ) (code : A → ℕ) (decode : ℕ → A) (kept : (w : ℕ) → w < 256 ^ width → code (decode w) ≡ w)
+    {bytes : List ℕ} (b : AreBytes bytes) (from n : ℕ) (room : from + width * n ≤ length bytes) where
+  as_number : (i : ℕ) → i < n → get_or (numbers_at width bytes from n) i 0 ≡ code (get_or (entries_at width decode bytes from n) i d)
+  unfolding numbers_at entries_at
+  as_number i h =
+      let small = number_small bytes b (from + width * i) width (omega (arith, part_fits from width n (length bytes) i room h, mul-suc width i)) in
+      at-tab 0 n _ i h ∙ sym (ap code (at-tab d n _ i h) ∙ kept (number_at bytes (from + width * i) width) small)
+
+  pub moved_entries : (p s q r : ℕ) (v : Starts p s) (u : Starts q r) → array width (λ (w : ℕ). w) (month_order 0 q r (order_of_t 0 p s (numbers_at width bytes from n)))
+      ≡ array width code (month_order d q r (order_of_t d p s (entries_at width decode bytes from n)))
+  unfolding entries_at
+  moved_entries p s q r v u =
+      let numbers = numbers_at width bytes from n in
+      let entries = entries_at width decode bytes from n in
+      let long : length numbers ≡ n = length-numbers_at width bytes from n in
+      let same : length numbers ≡ length entries = long ∙ sym (length-tab n (λ (i : ℕ). decode (number_at bytes (from + width * i) width))) in
+      let there : length (order_of_t 0 p s numbers) ≡ length (order_of_t d p s entries) = length-order_of_t 0 p s v numbers ∙ same ∙ sym (length-order_of_t d p s v entries) in
+      let R : ℕ → A → Type 0 = λ (w : ℕ) (z : A). w ≡ code z in
+      array_same 0 d width (λ (w : ℕ). w) code _ _
+      (length-month_order 0 q r u (order_of_t 0 p s numbers) ∙ there ∙ sym (length-month_order d q r u (order_of_t d p s entries)))
+      (month_order-pair R 0 d q r u (order_of_t 0 p s numbers) (order_of_t d p s entries) there (order_of_t-pair R 0 d p s v numbers entries same (λ i h. as_number i (omega (arith, h, long)))))

@@ -7,7 +7,7 @@ use native.Mathlib.Omega.{arith}
 use borrow.Author.Tests.{le-ltb, eq-eqb, ltb-false, eqb-true, not-false}
 use lib.ListN.{length, take, drop}
 use Rattle.refusals.specs.declared.Refusal.{Refusal}
-use Rattle.refusals.specs.declared.Found.TheVariants.{Nowhere}
+use Rattle.std.specs.Prelude.{None}
 use Rattle.refusals.specs.Limits.{least_months, most_months, months_of_year, earliest_year}
 use Rattle.refusals.specs.Inside.{start_inside, years_inside}
 use Rattle.refusals.specs.First.{first_outside, first_above}
@@ -67,8 +67,8 @@ pub record SeriesFits (year : ℕ) (s : SeriesWithWeights) : Type 0 where
   pub inside : start_inside s.start ≡ true
   pub same : length s.weights ≡ length s.figures
   pub years : years_inside year s.start (length s.figures) ≡ true
-  pub figures_fit : first_outside s.figures ≡ Nowhere
-  pub weights_fit : first_above s.weights ≡ Nowhere
+  pub figures_fit : first_outside s.figures ≡ None
+  pub weights_fit : first_above s.weights ≡ None
 
 -- it is written
 module _ (form : Form) (year : ℕ) (s : SeriesWithWeights) (room : ℕ) where

@@ -4,50 +4,49 @@
 ghost use Rattle.std.specs.Prelude.{◌≡◌, ◌≤◌};
 ghost use Rattle.refusals.specs.Limits.{most_months};
 ghost use Rattle.desk_forms.specs.Header.{count_in, series};
-ghost use Rattle.desk_forms.specs.Forms.{Sized, meaning_of};
+ghost use Rattle.desk_forms.specs.Forms.{meaning_of};
 ghost use Rattle.desk_checks.specs.Checked.{ContentsSay, FileSays, SeriesSays, SizesSay, too_short};
 
-use desk_forms::Form;
-use refusals::{Found, Refusal, Verdict};
+use desk_forms::{DatedSeries, Form, SizedFile};
+use refusals::Refusal;
 
-// What the checks of a file find: its months, start month and first year, or why it is refused.
-#[derive(Clone, Copy)]
-pub enum Checked {
-    Fits { count: usize, start: u8, year: u16 },
-    Refused(Refusal),
+// What the checks of a file find: its months, start month and first year.
+#[derive(Clone, Copy, PartialEq, Eq, Debug)]
+pub struct Sizes {
+    pub count: usize,
+    pub start: u8,
+    pub year: u16,
 }
 
 // What is lent to be filled: slices for figures and weights, by their entries, or an output, by its bytes, for a file in a form.
-#[derive(Clone, Copy)]
+#[derive(Clone, Copy, PartialEq, Eq, Debug)]
 pub enum Lent {
     Slices { figures: usize, weights: usize },
     Bytes(Form, usize),
 }
 
 // Rows 7, 1, 2, 3, 8, 11 and 9, of the sizes of a file.
-fn sizes(file: &[u8], form: Form, given: u16) -> Checked
+fn check_sizes(file: &[u8], form: Form, given: u16) -> Result<Sizes, Refusal>
     ensures { SizesSay form given file.now result }
 {
-    if file.len() < desk_forms::front_of(form) {
-        return Checked::Refused(Refusal::NoHeader);
+    if file.len() < form.front() {
+        return Err(Refusal::NoHeader);
     }
     let count = little_endian::number_at(file, 0, desk_forms::COUNT) as usize;
     let start = file[desk_forms::START];
     let period = file[desk_forms::PERIOD];
-    let year = desk_forms::year_of(file, form, given);
-    if let Verdict::Refused(refusal) = refusals::span(count, start) {
-        return Checked::Refused(refusal);
-    }
+    let year = form.year(file, given);
+    refusals::span(count, start)?;
     if period != desk_forms::MONTHLY {
-        return Checked::Refused(Refusal::BadPeriod);
+        return Err(Refusal::BadPeriod);
     }
     if refusals::years_outside(year, start, count) {
-        return Checked::Refused(Refusal::BadYears);
+        return Err(Refusal::BadYears);
     }
-    if file.len() != desk_forms::file_length(form, count) {
-        return Checked::Refused(Refusal::BadFileLength);
+    if file.len() != form.length(count) {
+        return Err(Refusal::BadFileLength);
     }
-    Checked::Fits { count, start, year }
+    Ok(Sizes { count, start, year })
 }
 
 // Row 4.
@@ -56,80 +55,62 @@ fn too_short(lent: Lent, n: usize) -> bool
     ensures { result ≡ too_short lent n }
 {
     match lent {
-        Lent::Slices { figures, weights } => chart::least(figures, weights) < n,
-        Lent::Bytes(form, room) => room < desk_forms::file_length(form, n),
+        Lent::Slices { figures, weights } => figures.min(weights) < n,
+        Lent::Bytes(form, room) => room < form.length(n),
     }
 }
 
 // Rows 5 and 10, of the arrays.
-fn contents(file: &[u8], form: Form, n: usize, start: u8) -> Verdict
-    requires { Sized form file.now n start }
-    ensures { ContentsSay (meaning_of form file.now) result }
+fn check_contents(file: SizedFile) -> Result<(), Refusal>
+    ensures { ContentsSay (meaning_of file.entry.form file.entry.bytes.now) result }
 {
-    let front = desk_forms::front_of(form);
-    let p = desk_forms::months_in(form);
-    let s = desk_forms::start_of(form, start);
-    if let Found::At(t) = desk_arrays::first_figure_outside(file, front, n, p, s) {
-        return Verdict::Refused(Refusal::FigureOutside(t));
+    if let Some(t) = file.first_outside() {
+        return Err(Refusal::FigureOutside(t));
     }
-    let weights = front + desk_arrays::FIGURE * n;
-    if let Found::At(t) = desk_arrays::first_weight_above(file, weights, n, p, s) {
-        return Verdict::Refused(Refusal::WeightAbove(t));
+    if let Some(t) = file.first_above() {
+        return Err(Refusal::WeightAbove(t));
     }
-    Verdict::Fine
+    Ok(())
 }
 
 // A file that is read or moved; `given` is its first year where the form has none.
-pub fn check_file(file: &[u8], form: Form, given: u16, lent: Lent) -> Checked
+pub fn check_file(file: &[u8], form: Form, given: u16, lent: Lent) -> Result<Sizes, Refusal>
     ensures { FileSays form given (too_short lent (count_in file.now)) file.now result }
 {
-    let answer = sizes(file, form, given);
-    let Checked::Fits {
-        count,
-        start,
-        year: _,
-    } = answer
-    else {
-        return answer;
+    let sizes = check_sizes(file, form, given)?;
+    if too_short(lent, sizes.count) {
+        return Err(Refusal::WrongLength);
+    }
+    let sized = SizedFile {
+        bytes: file,
+        form,
+        count: sizes.count,
+        start: sizes.start,
     };
-    if too_short(lent, count) {
-        return Checked::Refused(Refusal::WrongLength);
-    }
-    if let Verdict::Refused(refusal) = contents(file, form, count, start) {
-        return Checked::Refused(refusal);
-    }
-    answer
+    check_contents(sized)?;
+    Ok(sizes)
 }
 
 // A series to be written in a form, into an output of so many bytes.
-pub fn check_series(
-    figures: &[i32],
-    start: u8,
-    year: u16,
-    weights: &[u16],
-    form: Form,
-    room: usize,
-) -> Verdict
-    ensures { SeriesSays form year (series start figures.now weights.now) room result }
+pub fn check_series(s: DatedSeries, form: Form, room: usize) -> Result<(), Refusal>
+    ensures { SeriesSays form s.entry.year (series s.entry.start s.entry.figures.now s.entry.weights.now) room result }
 {
-    let n = figures.len();
-    if let Verdict::Refused(refusal) = refusals::span(n, start) {
-        return Verdict::Refused(refusal);
+    let n = s.figures.len();
+    refusals::span(n, s.start)?;
+    if refusals::years_outside(s.year, s.start, n) {
+        return Err(Refusal::BadYears);
     }
-    if refusals::years_outside(year, start, n) {
-        return Verdict::Refused(Refusal::BadYears);
+    if s.weights.len() != n {
+        return Err(Refusal::WrongLength);
     }
-    if weights.len() != n {
-        return Verdict::Refused(Refusal::WrongLength);
+    if room < form.length(n) {
+        return Err(Refusal::WrongLength);
     }
-    if room < desk_forms::file_length(form, n) {
-        return Verdict::Refused(Refusal::WrongLength);
+    if let Some(t) = refusals::first_outside(s.figures) {
+        return Err(Refusal::FigureOutside(t));
     }
-    if let Found::At(t) = refusals::first_outside(figures) {
-        return Verdict::Refused(Refusal::FigureOutside(t));
+    if let Some(t) = refusals::first_above(s.weights) {
+        return Err(Refusal::WeightAbove(t));
     }
-    if let Found::At(t) = refusals::first_above(weights) {
-        return Verdict::Refused(Refusal::WeightAbove(t));
-    }
-    Verdict::Fine
+    Ok(())
 }

@@ -1,15 +1,12 @@
 -- Reading, writing and moving in either form: what the checks found, and what the lent slices then hold. Nothing here is promised to a caller of the
 -- desk.
-use Rattle.std.specs.Prelude.{ℕ, ◌≡◌, List, ◌++◌, ℤ, length, drop}
+use Rattle.std.specs.Prelude.{ℕ, ◌≡◌, List, ◌++◌, ℤ, length, drop, Result, Ok, Err}
 use Rattle.refusals.specs.declared.Refusal.{Refusal}
-use Rattle.refusals.specs.declared.Verdict.{Verdict}
-use Rattle.refusals.specs.declared.Verdict.TheVariants as verdict
 use Rattle.refusals.specs.Promises.{Before, Stopped}
 use Rattle.desk_forms.specs.declared.Form.{Form}
 use Rattle.desk_forms.specs.Header.{SeriesWithWeights, count_in, length_for}
 use Rattle.desk_forms.specs.Forms.{front_of, bytes_in, meaning_of}
-use Rattle.desk_checks.specs.declared.Checked.{Checked}
-use Rattle.desk_checks.specs.declared.Checked.TheVariants.{Fits, Refused}
+use Rattle.desk_checks.specs.declared.Sizes.{Sizes}
 use Rattle.desk_checks.specs.declared.Lent.TheVariants.{Slices, Bytes}
 use Rattle.desk_checks.specs.Checked.{too_short, form_checks, FileFits, written_checks}
 
@@ -24,9 +21,9 @@ pub record ReadStops (form : Form) (given : ℕ) (file : List ℕ) (figures₀ :
   pub figures_left : figures ≡ figures₀
   pub weights_left : weights ≡ weights₀
 
-abbrev pub ReadEither : Form → ℕ → List ℕ → List ℤ → List ℕ → Checked → List ℤ → List ℕ → Type 0
-ReadEither form given file figures₀ weights₀ (Fits n start year) figures weights = ReadFits form given file figures₀ weights₀ n start year figures weights
-ReadEither form given file figures₀ weights₀ (Refused q) figures weights = ReadStops form given file figures₀ weights₀ q figures weights
+abbrev pub ReadEither : Form → ℕ → List ℕ → List ℤ → List ℕ → Result Sizes Refusal → List ℤ → List ℕ → Type 0
+ReadEither form given file figures₀ weights₀ (Ok s) figures weights = ReadFits form given file figures₀ weights₀ s.count s.start s.year figures weights
+ReadEither form given file figures₀ weights₀ (Err q) figures weights = ReadStops form given file figures₀ weights₀ q figures weights
 
 -- ---- writing: a success fills the front of the output with the file, a refusal leaves it
 pub record WriteFits (form : Form) (year : ℕ) (s : SeriesWithWeights) (out₀ out : List ℕ) : Type 0 where
@@ -37,9 +34,9 @@ pub record WriteStops (form : Form) (year : ℕ) (s : SeriesWithWeights) (out₀
   pub stops : Stopped q (written_checks form year s (length out₀))
   pub out_left : out ≡ out₀
 
-abbrev pub WriteEither : Form → ℕ → SeriesWithWeights → List ℕ → Verdict → List ℕ → Type 0
-WriteEither form year s out₀ verdict.Fine out = WriteFits form year s out₀ out
-WriteEither form year s out₀ (verdict.Refused q) out = WriteStops form year s out₀ q out
+abbrev pub WriteEither : Form → ℕ → SeriesWithWeights → List ℕ → Result Unit Refusal → List ℕ → Type 0
+WriteEither form year s out₀ (Ok done) out = WriteFits form year s out₀ out
+WriteEither form year s out₀ (Err q) out = WriteStops form year s out₀ q out
 
 -- ---- moving from a form into another: the same
 pub record MoveFits (form : Form) (given : ℕ) (other : Form) (file out₀ : List ℕ) (n start year : ℕ) (out : List ℕ) : Type 0 where
@@ -50,6 +47,6 @@ pub record MoveStops (form : Form) (given : ℕ) (other : Form) (file out₀ : L
   pub stops : Stopped q (form_checks form given (too_short (Bytes other (length out₀)) (count_in file)) file)
   pub out_left : out ≡ out₀
 
-abbrev pub MoveEither : Form → ℕ → Form → List ℕ → List ℕ → Checked → List ℕ → Type 0
-MoveEither form given other file out₀ (Fits n start year) out = MoveFits form given other file out₀ n start year out
-MoveEither form given other file out₀ (Refused q) out = MoveStops form given other file out₀ q out
+abbrev pub MoveEither : Form → ℕ → Form → List ℕ → List ℕ → Result Sizes Refusal → List ℕ → Type 0
+MoveEither form given other file out₀ (Ok s) out = MoveFits form given other file out₀ s.count s.start s.year out
+MoveEither form given other file out₀ (Err q) out = MoveStops form given other file out₀ q out

@@ -4,9 +4,9 @@
 ghost use Rattle.desk_forms.specs.Header.{series};
 ghost use Rattle.desk_either.specs.Either.{MoveEither, ReadEither, WriteEither};
 
-use desk_checks::{Checked, Lent};
-use desk_forms::Form;
-use refusals::Verdict;
+use desk_checks::{Lent, Sizes};
+use desk_forms::{DatedSeries, Form, SizedFile};
+use refusals::Refusal;
 
 // Reads a file; `given` is its first year where the form has none.
 pub fn read(
@@ -15,54 +15,51 @@ pub fn read(
     given: u16,
     figures: &mut [i32],
     weights: &mut [u16],
-) -> Checked
+) -> Result<Sizes, Refusal>
     ensures { ReadEither form given file.now figures.old weights.old result figures.new weights.new }
 {
     let lent = Lent::Slices {
         figures: figures.len(),
         weights: weights.len(),
     };
-    let answer = desk_checks::check_file(file, form, given, lent);
-    let Checked::Fits {
-        count,
-        start,
-        year: _,
-    } = answer
-    else {
-        return answer;
+    let sizes = desk_checks::check_file(file, form, given, lent)?;
+    let sized = SizedFile {
+        bytes: file,
+        form,
+        count: sizes.count,
+        start: sizes.start,
     };
-    desk_forms::fill(file, form, count, start, figures, weights);
-    answer
+    sized.fill(figures, weights);
+    Ok(sizes)
 }
 
 // Writes a series.
-pub fn write(
-    figures: &[i32],
-    start: u8,
-    year: u16,
-    weights: &[u16],
-    form: Form,
-    out: &mut [u8],
-) -> Verdict
-    ensures { WriteEither form year (series start figures.now weights.now) out.old result out.new }
+pub fn write(s: DatedSeries, form: Form, out: &mut [u8]) -> Result<(), Refusal>
+    ensures { WriteEither form s.entry.year (series s.entry.start s.entry.figures.now s.entry.weights.now) out.old result out.new }
 {
-    let answer = desk_checks::check_series(figures, start, year, weights, form, out.len());
-    let Verdict::Fine = answer else {
-        return answer;
-    };
-    desk_forms::put_file(figures, start, year, weights, form, out);
-    answer
+    desk_checks::check_series(s, form, out.len())?;
+    s.put(form, out);
+    Ok(())
 }
 
 // Moves a file into another form; `given` is its first year where its own has none.
-pub fn move_file(file: &[u8], form: Form, given: u16, other: Form, out: &mut [u8]) -> Checked
+pub fn move_file(
+    file: &[u8],
+    form: Form,
+    given: u16,
+    other: Form,
+    out: &mut [u8],
+) -> Result<Sizes, Refusal>
     ensures { MoveEither form given other file.now out.old result out.new }
 {
     let lent = Lent::Bytes(other, out.len());
-    let answer = desk_checks::check_file(file, form, given, lent);
-    let Checked::Fits { count, start, year } = answer else {
-        return answer;
+    let sizes = desk_checks::check_file(file, form, given, lent)?;
+    let sized = SizedFile {
+        bytes: file,
+        form,
+        count: sizes.count,
+        start: sizes.start,
     };
-    desk_forms::move_file(file, form, count, start, year, other, out);
-    answer
+    sized.move_into(other, sizes.year, out);
+    Ok(sizes)
 }

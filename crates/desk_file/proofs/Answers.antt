@@ -8,9 +8,8 @@ use borrow.Author.Tests.{le-ltb}
 use lib.Dec.{ltb}
 use lib.IntN.{ℤ}
 use lib.ListN.{length}
+use Rattle.std.specs.Prelude.{Ok, Err}
 use Rattle.refusals.specs.declared.Refusal.{Refusal}
-use Rattle.refusals.specs.declared.Verdict.{Verdict}
-use Rattle.refusals.specs.declared.Verdict.TheVariants as verdict
 use Rattle.refusals.specs.Limits.{earliest_year}
 use Rattle.refusals.specs.Sheet.{success, refusal_of}
 use Rattle.refusals.specs.Promises.{Before, Stopped}
@@ -21,14 +20,10 @@ use Rattle.desk_forms.specs.Forms.{Sized}
 use Rattle.desk_forms.specs.File.{file_length}
 use Rattle.desk_forms.proofs.FormLaws.{meaning-months}
 use Rattle.desk_forms.proofs.AfterLaws.{front_filled, front_kept}
-use Rattle.desk_checks.specs.declared.Checked.{Checked}
-use Rattle.desk_checks.specs.declared.Checked.TheVariants as checked
 use Rattle.desk_checks.specs.Checked.{form_checks, FileFits, written_checks}
 use Rattle.desk_checks.proofs.CheckedLaws.{sized, lent_fits, series_fits, undated_file, undated_series}
 use Rattle.desk_checks.proofs.Again.{written-length}
-use Rattle.desk_either.specs.Either.{ReadFits, ReadStops, ReadEither, WriteFits, WriteStops, WriteEither}
-use Rattle.desk_file.specs.declared.Reading.TheVariants as reading
-use Rattle.desk_file.specs.declared.Writing.TheVariants as writing
+use Rattle.desk_either.specs.Either.{ReadFits, ReadStops, WriteFits, WriteStops}
 use Rattle.desk_file.specs.ReadFile.{Accepted, accepted, read_answer, ReadDone}
 use Rattle.desk_file.specs.WriteFile.{write_answer, WriteDone}
 
@@ -68,17 +63,14 @@ read_with file a b {n} {start} e f w h g =
     sym (read_accepts file f w (subst (λ (s : Bool). Before 10 (form_checks Plain earliest_year s file)) same fits.passed) fits.count fits.begins)
 
 module _ {file : List ℕ} {figures₀ figures : List ℤ} {weights₀ weights : List ℕ} where
-  pub read_refused : {r : Checked} {q : Refusal} → ReadEither Plain earliest_year file figures₀ weights₀ r figures weights → r ≡ checked.Refused q
-      → ReadDone file figures₀ weights₀ (reading.Refused q) figures weights
-  read_refused {q = q} told e =
-      let t : ReadStops Plain earliest_year file figures₀ weights₀ q figures weights = subst (λ (r : Checked). ReadEither Plain earliest_year file figures₀ weights₀ r figures weights) e told in
+  pub read_refused : {q : Refusal} → ReadStops Plain earliest_year file figures₀ weights₀ q figures weights → ReadDone file figures₀ weights₀ (Err q) figures weights
+  read_refused t =
       let a = read_stops file (length figures₀) (length weights₀) t.stops in
       record { answer = a; figures_left = t.figures_left ∙ front_kept _ figures₀ a; weights_left = t.weights_left ∙ front_kept _ weights₀ a }
 
-  pub read_done : {r : Checked} {n start year : ℕ} → ReadEither Plain earliest_year file figures₀ weights₀ r figures weights → r ≡ checked.Fits n start year
-      → ReadDone file figures₀ weights₀ (reading.Series n start) figures weights
-  read_done {n = n} {start = start} {year = year} told e =
-      let t : ReadFits Plain earliest_year file figures₀ weights₀ n start year figures weights = subst (λ (r : Checked). ReadEither Plain earliest_year file figures₀ weights₀ r figures weights) e told in
+  pub read_done : {n start year : ℕ} → ReadFits Plain earliest_year file figures₀ weights₀ n start year figures weights
+      → ReadDone file figures₀ weights₀ (Ok (record { count = n; start = start })) figures weights
+  read_done t =
       let f = t.fits in
       let a = read_accepts file (length figures₀) (length weights₀) f.passed f.count f.begins in
       let m = meaning-months (sized f) in
@@ -102,16 +94,12 @@ module _ (s : SeriesWithWeights) (room : ℕ) where
       (h.0, cc)
 
 module _ {s : SeriesWithWeights} {out₀ out : List ℕ} where
-  pub write_refused : {r : Verdict} {q : Refusal} → WriteEither Plain earliest_year s out₀ r out → r ≡ verdict.Refused q → WriteDone s out₀ (writing.Refused q) out
-  write_refused {q = q} told e =
-      let t : WriteStops Plain earliest_year s out₀ q out = subst (λ (r : Verdict). WriteEither Plain earliest_year s out₀ r out) e told in
+  pub write_refused : {q : Refusal} → WriteStops Plain earliest_year s out₀ q out → WriteDone s out₀ (Err q) out
+  write_refused t =
       let a = write_stops s (length out₀) t.stops in
       record { answer = a; out_left = t.out_left ∙ front_kept _ out₀ a }
 
-  pub write_fits : {r : Verdict} → WriteEither Plain earliest_year s out₀ r out → r ≡ verdict.Fine → WriteFits Plain earliest_year s out₀ out
-  write_fits told e = subst (λ (r : Verdict). WriteEither Plain earliest_year s out₀ r out) e told
-
-  pub write_done : {k : ℕ} → WriteFits Plain earliest_year s out₀ out → k ≡ file_length (length s.figures) → WriteDone s out₀ (writing.Length k) out
+  pub write_done : {k : ℕ} → WriteFits Plain earliest_year s out₀ out → k ≡ file_length (length s.figures) → WriteDone s out₀ (Ok k) out
   write_done t e =
       let a = write_accepts s (length out₀) t.fits in
       let w = series_fits Plain earliest_year s (length out₀) t.fits in

@@ -1,11 +1,11 @@
 -- METHOD 7 and 8, the examples of reading and writing the plain desk file: each row of both, the first where several apply, and a series of 75 months byte
 -- by byte (shown in proofs/Examples.antt).
-use Rattle.std.specs.Prelude.{◌≡◌, List, [], ◌∷◌, ◌++◌, ℕ, ◌+◌, ◌-◌, ℤ, pos, neg_ℤ, length, replicate}
+use Rattle.std.specs.Prelude.{◌≡◌, List, [], ◌∷◌, ◌++◌, ℕ, ◌+◌, ◌-◌, ℤ, pos, neg_ℤ, length, replicate, Result}
+use Rattle.refusals.specs.declared.Refusal.{Refusal}
 use Rattle.integers.specs.Lists.{tab}
 use Rattle.refusals.specs.Sheet.{success, refusal}
 use Rattle.desk_forms.specs.Header.{SeriesWithWeights, series}
-use Rattle.desk_file.specs.declared.Reading.{Reading}
-use Rattle.desk_file.specs.declared.Writing.{Writing}
+use Rattle.desk_file.specs.declared.Series.{Series}
 use Rattle.desk_file.specs.ReadFile.{accepted, read_says, read_answer, ReadDone}
 use Rattle.desk_file.specs.WriteFile.{write_says, write_answer, WriteDone}
 
@@ -99,8 +99,8 @@ plain_from_march = 75 ∷ 0 ∷ 3 ∷ 12 ∷ arrays_of (tab 75 (λ t. t))
 -- METHOD 7.2, 7.3, 8.4: what `read` and `write` promise of it. Slices of 76 and 77 entries, all 9, keep the last one and the last two; an output of 456
 -- bytes keeps the last two, and one of 453 bytes, which are too few, all
 pub record SeriesFromMarch : Type 0 where
-  pub read : (r : Reading) (figures : List ℤ) (weights : List ℕ) → ReadDone plain_from_march (replicate 76 (pos 9)) (replicate 77 9) r figures weights
+  pub read : (r : Result Series Refusal) (figures : List ℤ) (weights : List ℕ) → ReadDone plain_from_march (replicate 76 (pos 9)) (replicate 77 9) r figures weights
       → (read_says r ≡ accepted 75 3) × (figures ≡ from_march.figures ++ pos 9 ∷ []) × (weights ≡ from_march.weights ++ 9 ∷ 9 ∷ [])
-  pub written : (r : Writing) (out : List ℕ) → WriteDone from_march (replicate 456 9) r out
+  pub written : (r : Result ℕ Refusal) (out : List ℕ) → WriteDone from_march (replicate 456 9) r out
       → (write_says r ≡ success 454) × (out ≡ plain_from_march ++ 9 ∷ 9 ∷ [])
-  pub too_short : (r : Writing) (out : List ℕ) → WriteDone from_march (replicate 453 9) r out → (write_says r ≡ refusal 4 0) × (out ≡ replicate 453 9)
+  pub too_short : (r : Result ℕ Refusal) (out : List ℕ) → WriteDone from_march (replicate 453 9) r out → (write_says r ≡ refusal 4 0) × (out ≡ replicate 453 9)

@@ -2,15 +2,20 @@
 #![tactic(auto)]
 
 ghost use Rattle.std.specs.Prelude.{◌≡◌, ◌≤◌, length};
-ghost use Rattle.desk_forms.specs.Header.{length_for};
+ghost use Rattle.refusals.specs.Promises.{SpanFits};
+ghost use Rattle.desk_forms.specs.Header.{length_for, weights_start};
 ghost use Rattle.desk_forms.specs.Forms.{front_of, months_in, start_of, year_of};
 
-mod parts;
+mod dated;
+mod sized;
 
-pub use parts::{fill, move_file, put_file};
+use chart::Chart;
+use desk_arrays::Entry;
+pub use dated::DatedSeries;
+pub use sized::SizedFile;
 
 // In order of t, or by calendar month with the first year.
-#[derive(Clone, Copy)]
+#[derive(Clone, Copy, PartialEq, Eq, Debug)]
 pub enum Form {
     Plain,
     Columns,
@@ -25,60 +30,72 @@ pub const PERIOD: usize = 3;
 
 const HEADER: usize = 4;
 
-// Bytes of the first year, of all before the figures by calendar month, and of a month in both arrays.
+// Bytes of the first year, of all before the figures by calendar month, of a figure and of a month in both arrays.
 const YEAR: usize = 2;
 
 const COLUMNS_FRONT: usize = HEADER + YEAR;
 
-const MONTH: usize = desk_arrays::FIGURE + desk_arrays::WEIGHT;
+const FIGURE: usize = <i32 as Entry>::BYTES;
+
+const MONTH: usize = FIGURE + <u16 as Entry>::BYTES;
 
 // The period of a desk file.
 pub const MONTHLY: u8 = refusals::MONTHS_OF_YEAR as u8;
 
-// The bytes before the figures.
-pub fn front_of(form: Form) -> usize
-    ensures { (result ≡ front_of form) × (4 ≤ result) × (result ≤ 6) }
-{
-    match form {
-        Form::Plain => HEADER,
-        Form::Columns => COLUMNS_FRONT,
+impl Form {
+    // The bytes before the figures.
+    pub fn front(self) -> usize
+        ensures { (result ≡ front_of self) × (4 ≤ result) × (result ≤ 6) }
+    {
+        match self {
+            Form::Plain => HEADER,
+            Form::Columns => COLUMNS_FRONT,
+        }
     }
-}
 
-// The length of a file of n months.
-pub fn file_length(form: Form, n: usize) -> usize
-    requires { n ≤ 65535 }
-    ensures { result ≡ length_for (front_of form) n }
-{
-    front_of(form) + MONTH * n
-}
-
-// The order of its arrays, as a month order: the months in a year, and the start month. With one month in a year it is the order of t.
-pub fn months_in(form: Form) -> usize
-    ensures { result ≡ months_in form }
-{
-    match form {
-        Form::Plain => 1,
-        Form::Columns => refusals::MONTHS_OF_YEAR,
+    // Where the weights of n months start: the figures end there.
+    pub fn weights(self, n: usize) -> usize
+        requires { n ≤ 65535 }
+        ensures { result ≡ weights_start (front_of self) n }
+    {
+        self.front() + FIGURE * n
     }
-}
 
-pub fn start_of(form: Form, start: u8) -> usize
-    ensures { result ≡ start_of form start }
-{
-    match form {
-        Form::Plain => 1,
-        Form::Columns => start as usize,
+    // The length of a file of n months.
+    pub fn length(self, n: usize) -> usize
+        requires { n ≤ 65535 }
+        ensures { result ≡ length_for (front_of self) n }
+    {
+        self.front() + MONTH * n
     }
-}
 
-// Its first year: the one that is given, where the form has none.
-pub fn year_of(file: &[u8], form: Form, given: u16) -> u16
-    requires { front_of form ≤ length file.now }
-    ensures { result ≡ year_of form given file.now }
-{
-    match form {
-        Form::Plain => given,
-        Form::Columns => little_endian::number_at(file, HEADER, YEAR) as u16,
+    // The order of its arrays, as a month order: with one month in a year it is the order of t.
+    pub fn chart(self, n: usize, start: u8) -> Chart
+        requires { SpanFits n start }
+        ensures { (result.period ≡ months_in self) × (result.start ≡ start_of self start) × (result.count ≡ n) }
+    {
+        match self {
+            Form::Plain => Chart {
+                period: 1,
+                start: 1,
+                count: n,
+            },
+            Form::Columns => Chart {
+                period: refusals::MONTHS_OF_YEAR,
+                start: usize::from(start),
+                count: n,
+            },
+        }
+    }
+
+    // The first year of a file: the one that is given, where the form has none.
+    pub fn year(self, file: &[u8], given: u16) -> u16
+        requires { front_of self ≤ length file.now }
+        ensures { result ≡ year_of self given file.now }
+    {
+        match self {
+            Form::Plain => given,
+            Form::Columns => little_endian::number_at(file, HEADER, YEAR) as u16,
+        }
     }
 }

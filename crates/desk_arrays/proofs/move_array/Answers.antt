@@ -1,45 +1,51 @@
-use Prim.Native.Nat.{ℕ, ◌+◌, ◌*◌, ◌≤◌}
-use mathlib.Core.Path.{sym, ap, ◌∙◌}
+use Prim.Native.Nat.{◌<◌, ◌≤◌}
+use mathlib.Core.Path.{◌≡◌, sym, ap, ◌∙◌}
 use native.Mathlib.Omega.{arith}
 use lib.ListN.{length}
-use Rattle.little_endian.specs.Bytes.{number_at}
+use lib.Seq.{sets}
+use Rattle.little_endian.specs.Bytes.{AreBytes}
+use Rattle.chart.specs.Chart.{order_of_t}
+use Rattle.chart.specs.Promises.{Stands}
 use Rattle.chart.proofs.Rearranging.{length-order_of_t}
-use Rattle.desk_arrays.proofs.ArrayLaws.{length-numbers_at, part_fits, number_of, stored_none, stored_room, stored_more, stored_all}
-use Rattle.desk_arrays.proofs.move_array.Lts as lts
-use Rattle.desk_arrays.proofs.move_array.Tie as tie
-use Rattle.desk_arrays.proofs.move_array.Reads as reads
+use Rattle.desk_arrays.specs.Promises.{numbers_at}
+use Rattle.desk_arrays.proofs.ArrayLaws.{length-numbers_at, number_of, stored_more, stored_all, moved_entries}
 use Rattle.desk_arrays.proofs.move_array.Goals as goal
 
-abbrev After-place : Type 0
-After-place = lts.After-place tie.the-claims reads.Pre reads.Post goal.the-invariant-loop-i goal.the-decreases-loop-i
-
--- the number that is read lies in the file
-inside : (c : After-place) → let a = c.args in a.from + a.width * c.place.result + a.width ≤ length a.file.now
-inside c =
-    part_fits c.args.from c.args.width c.args.n (length c.args.file.now) c.place.result c.requires.1.room c.place.ensures.1
-
-pub loop-i-init : goal.loop-i-init
-loop-i-init c =
-    let a = c.args in
-    stored_none c.requires.2 (length-order_of_t 0 a.p a.s c.requires.1.charted.starts _ ∙ length-numbers_at a.width a.file.now a.from a.n) c.first_in-t.ensures.0
-
-pub number_at-requires : goal.number_at-requires
-number_at-requires c = (c.requires.0, inside c.before.before)
-
-pub put_number-requires : goal.put_number-requires
-put_number-requires c = stored_room c.loop-i.invariant (omega arith)
-
 pub loop-i-preserved : goal.loop-i-preserved
-loop-i-preserved c =
-    let a = c.args in
+loop-i-preserved g c =
+    let q = c.loop-i.invariant in
+    let s = c.in-Some.ensures.steps in
+    let a = c.args.chart in
+    let b = c.args.other in
+    let width = g.E.Entry.BYTES in
+    let long : length (order_of_t 0 a.period a.start (numbers_at width c.args.file.now c.args.from a.count)) ≡ b.count =
+    length-order_of_t 0 a.period a.start a.charted.starts (numbers_at width c.args.file.now c.args.from a.count) ∙ length-numbers_at width c.args.file.now c.args.from a.count ∙ sym c.requires.2 in
+    let k : Stands b.period b.start (length (order_of_t 0 a.period a.start (numbers_at width c.args.file.now c.args.from a.count))) c.loop-i.i-iterator.place c.in-Some.t = rw (s.0, q.chart, ← long) at s.1 in
+    let e = rw (c.BYTES-width.ensures, s.0) at c.put_number.ensures in
+    let t : c.in-Some.t < a.count = omega (arith, k.inside, long, c.requires.2) in
     let value =
-    c.number_at.ensures.value
-    ∙ ap (λ (k : ℕ). number_at a.file.now (a.from + a.width * k) a.width) c.place.ensures.0
-    ∙ sym (number_of a.width a.file.now a.from a.p a.s a.n c.loop-i.t c.requires.1.charted.starts c.loop-i.invariant.reached.inside) in
-    stored_more c.loop-i.invariant (omega arith) value c.put_number.ensures c.next-t.ensures
-
-pub shape_of-out : goal.shape_of-out
-shape_of-out c = c.loop-i.invariant.long
+    (rw (c.BYTES-width.ensures, c.place.ensures.0) at c.number_at-number.ensures.value)
+    ∙ sym (number_of width c.args.file.now c.args.from a.period a.start a.count c.in-Some.t a.charted.starts t) in
+    record {
+      can = tt;
+      ends = tt;
+      chart = s.2 ∙ q.chart;
+      stored = rw s.3 (stored_more b.charted.starts q.stored k value e);
+    }
 
 pub returns : goal.returns
-returns c = stored_all c.loop-i.invariant (omega arith)
+returns g c =
+    let a = c.args.chart in
+    let e = g.E.Entry in
+    let numbers = numbers_at e.BYTES c.args.file.now c.args.from a.count in
+    let n : c.args.other.count ≤ c.loop-i.i-iterator.place = rw c.loop-i.invariant.chart at c.in-None.ensures.steps in
+    let v = a.charted.starts in
+    let u = c.args.other.charted.starts in
+    let b : AreBytes c.args.file.now = record { each = λ i h. omega (arith, c.type_inv.file i) } in
+    let stored =
+    stored_all u c.loop-i.invariant.stored
+    (rw (length-order_of_t 0 a.period a.start v numbers, length-numbers_at e.BYTES c.args.file.now c.args.from a.count, ← c.requires.2) n) in
+    record {
+      numbers = stored;
+      entries = stored ∙ ap (sets c.args.out.now c.args.to) (moved_entries e.zero e.BYTES e.code e.decode g.met.E.Entry.kept b c.args.from a.count c.requires.0 a.period a.start c.args.other.period c.args.other.start v u);
+    }
