@@ -1,15 +1,14 @@
 -- The answers of the four functions, from what the checks found, and what then holds of the slices. The year 0 is what is given for a file that has
 -- its own.
 use Prim.Native.Nat.{ℕ, min}
-use mathlib.Core.Path.{◌≡◌, refl, sym, ap, subst, ◌∙◌}
+use mathlib.Core.Path.{◌≡◌, refl, sym, ap, ◌∙◌}
 use mathlib.Core.Bool.{Bool}
 use mathlib.Core.List.{List, ◌++◌}
 use lib.Dec.{ltb}
 use lib.IntN.{ℤ}
 use lib.ListN.{length, drop}
+use Rattle.std.specs.Prelude.{Ok, Err}
 use Rattle.refusals.specs.declared.Refusal.{Refusal}
-use Rattle.refusals.specs.declared.Verdict.{Verdict}
-use Rattle.refusals.specs.declared.Verdict.TheVariants as verdict
 use Rattle.refusals.specs.Sheet.{success, refusal_of}
 use Rattle.refusals.specs.Promises.{Before, Stopped}
 use Rattle.refusals.proofs.CheckLaws.{stopped, none-applies, all_before}
@@ -19,15 +18,10 @@ use Rattle.desk_forms.specs.File.{file_length, series_in}
 use Rattle.desk_forms.specs.ColumnsFile.{columns_length, columns_bytes, first_year_in}
 use Rattle.desk_forms.proofs.FormLaws.{meaning-months}
 use Rattle.desk_forms.proofs.AfterLaws.{front_filled, front_kept}
-use Rattle.desk_checks.specs.declared.Checked.{Checked}
-use Rattle.desk_checks.specs.declared.Checked.TheVariants as checked
 use Rattle.desk_checks.specs.Checked.{form_checks, FileFits, written_checks}
 use Rattle.desk_checks.proofs.CheckedLaws.{sized, file_fits, series_fits}
 use Rattle.desk_checks.proofs.Again.{written-length}
-use Rattle.desk_either.specs.Either.{ReadFits, ReadStops, ReadEither, WriteFits, WriteStops, WriteEither, MoveFits, MoveStops, MoveEither}
-use Rattle.desk_file.specs.declared.Writing.TheVariants as writing
-use Rattle.desk_columns.specs.declared.ColumnsReading.TheVariants as reading
-use Rattle.desk_columns.specs.declared.MovingBack.TheVariants as back
+use Rattle.desk_either.specs.Either.{ReadFits, ReadStops, WriteFits, WriteStops, MoveFits, MoveStops}
 use Rattle.desk_columns.specs.ReadColumns.{Dated, dated, read_columns_answer, ReadColumnsDone}
 use Rattle.desk_columns.specs.WriteColumns.{write_columns_answer, WriteColumnsDone}
 use Rattle.desk_columns.specs.Moving.{forward_answer, MovedForward, SizeAndYear, size_and_year, back_answer, MovedBack}
@@ -60,17 +54,14 @@ module _ (file : List ℕ) (figuresRoom weightsRoom : ℕ) where
       }
 
 module _ {file : List ℕ} {figures₀ figures : List ℤ} {weights₀ weights : List ℕ} where
-  pub read_refused : {r : Checked} {q : Refusal} → ReadEither Columns 0 file figures₀ weights₀ r figures weights → r ≡ checked.Refused q
-      → ReadColumnsDone file figures₀ weights₀ (reading.Refused q) figures weights
-  read_refused {q = q} told e =
-      let t : ReadStops Columns 0 file figures₀ weights₀ q figures weights = subst (λ (r : Checked). ReadEither Columns 0 file figures₀ weights₀ r figures weights) e told in
+  pub read_refused : {q : Refusal} → ReadStops Columns 0 file figures₀ weights₀ q figures weights → ReadColumnsDone file figures₀ weights₀ (Err q) figures weights
+  read_refused t =
       let a = read_stops file (length figures₀) (length weights₀) t.stops in
       record { answer = a; figures_left = t.figures_left ∙ front_kept _ figures₀ a; weights_left = t.weights_left ∙ front_kept _ weights₀ a }
 
-  pub read_done : {r : Checked} {n start year : ℕ} → ReadEither Columns 0 file figures₀ weights₀ r figures weights → r ≡ checked.Fits n start year
-      → ReadColumnsDone file figures₀ weights₀ (reading.Series n start year) figures weights
-  read_done {n = n} {start = start} {year = year} told e =
-      let t : ReadFits Columns 0 file figures₀ weights₀ n start year figures weights = subst (λ (r : Checked). ReadEither Columns 0 file figures₀ weights₀ r figures weights) e told in
+  pub read_done : {n start year : ℕ} → ReadFits Columns 0 file figures₀ weights₀ n start year figures weights
+      → ReadColumnsDone file figures₀ weights₀ (Ok (record { count = n; start = start; year = year })) figures weights
+  read_done t =
       let a = read_accepts file (length figures₀) (length weights₀) t.fits in
       let m = meaning-months (sized t.fits) in
       record { answer = a; figures_left = t.figures_left ∙ front_filled _ figures₀ a m.0; weights_left = t.weights_left ∙ front_filled _ weights₀ a m.1 }
@@ -91,16 +82,12 @@ module _ (year : ℕ) (s : SeriesWithWeights) (room : ℕ) where
   write-accepted {k} e = let h = all_before (written_checks Columns year s room) (success (columns_length (length s.figures))) k e in (h.0, cc)
 
 module _ {year : ℕ} {s : SeriesWithWeights} {out₀ out : List ℕ} where
-  pub write_refused : {r : Verdict} {q : Refusal} → WriteEither Columns year s out₀ r out → r ≡ verdict.Refused q → WriteColumnsDone year s out₀ (writing.Refused q) out
-  write_refused {q = q} told e =
-      let t : WriteStops Columns year s out₀ q out = subst (λ (r : Verdict). WriteEither Columns year s out₀ r out) e told in
+  pub write_refused : {q : Refusal} → WriteStops Columns year s out₀ q out → WriteColumnsDone year s out₀ (Err q) out
+  write_refused t =
       let a = write_stops year s (length out₀) t.stops in
       record { answer = a; out_left = t.out_left ∙ front_kept _ out₀ a }
 
-  pub write_fits : {r : Verdict} → WriteEither Columns year s out₀ r out → r ≡ verdict.Fine → WriteFits Columns year s out₀ out
-  write_fits told e = subst (λ (r : Verdict). WriteEither Columns year s out₀ r out) e told
-
-  pub write_done : {k : ℕ} → WriteFits Columns year s out₀ out → k ≡ columns_length (length s.figures) → WriteColumnsDone year s out₀ (writing.Length k) out
+  pub write_done : {k : ℕ} → WriteFits Columns year s out₀ out → k ≡ columns_length (length s.figures) → WriteColumnsDone year s out₀ (Ok k) out
   write_done t e =
       let a = write_accepts year s (length out₀) t.fits in
       let w = series_fits Columns year s (length out₀) t.fits in
@@ -128,16 +115,12 @@ module _ (file : List ℕ) (year room : ℕ) where
       (record { passed = h.0; count = refl; begins = refl; dated = refl }, cc)
 
 module _ {file : List ℕ} {year : ℕ} {out₀ out : List ℕ} where
-  pub forward_refused : {r : Checked} {q : Refusal} → MoveEither Plain year Columns file out₀ r out → r ≡ checked.Refused q → MovedForward file year out₀ (writing.Refused q) out
-  forward_refused {q = q} told e =
-      let t : MoveStops Plain year Columns file out₀ q out = subst (λ (r : Checked). MoveEither Plain year Columns file out₀ r out) e told in
+  pub forward_refused : {q : Refusal} → MoveStops Plain year Columns file out₀ q out → MovedForward file year out₀ (Err q) out
+  forward_refused t =
       let a = forward_stops file year (length out₀) t.stops in
       record { answer = a; out_left = t.out_left ∙ front_kept _ out₀ a }
 
-  pub forward_fits : {r : Checked} {n start y : ℕ} → MoveEither Plain year Columns file out₀ r out → r ≡ checked.Fits n start y → MoveFits Plain year Columns file out₀ n start y out
-  forward_fits told e = subst (λ (r : Checked). MoveEither Plain year Columns file out₀ r out) e told
-
-  pub forward_done : {n start y k : ℕ} → MoveFits Plain year Columns file out₀ n start y out → k ≡ columns_length n → MovedForward file year out₀ (writing.Length k) out
+  pub forward_done : {n start y k : ℕ} → MoveFits Plain year Columns file out₀ n start y out → k ≡ columns_length n → MovedForward file year out₀ (Ok k) out
   forward_done {n} t e =
       let f = t.fits in
       let a = forward_accepts file year (length out₀) f.passed in
@@ -169,16 +152,12 @@ module _ (file : List ℕ) (room : ℕ) where
       (record { passed = h.0; count = refl; begins = refl; dated = sym (ap (λ (a : SizeAndYear). a.first_year) same) }, sym (ap (λ (a : SizeAndYear). a.size) same))
 
 module _ {file out₀ out : List ℕ} where
-  pub back_refused : {r : Checked} {q : Refusal} → MoveEither Columns 0 Plain file out₀ r out → r ≡ checked.Refused q → MovedBack file out₀ (back.Refused q) out
-  back_refused {q = q} told e =
-      let t : MoveStops Columns 0 Plain file out₀ q out = subst (λ (r : Checked). MoveEither Columns 0 Plain file out₀ r out) e told in
+  pub back_refused : {q : Refusal} → MoveStops Columns 0 Plain file out₀ q out → MovedBack file out₀ (Err q) out
+  back_refused t =
       let a = back_stops file (length out₀) t.stops in
       record { answer = a; out_left = t.out_left ∙ front_kept _ out₀ a }
 
-  pub back_fits : {r : Checked} {n start year : ℕ} → MoveEither Columns 0 Plain file out₀ r out → r ≡ checked.Fits n start year → MoveFits Columns 0 Plain file out₀ n start year out
-  back_fits told e = subst (λ (r : Checked). MoveEither Columns 0 Plain file out₀ r out) e told
-
-  pub back_done : {n start year k : ℕ} → MoveFits Columns 0 Plain file out₀ n start year out → k ≡ file_length n → MovedBack file out₀ (back.Length k year) out
+  pub back_done : {n start year k : ℕ} → MoveFits Columns 0 Plain file out₀ n start year out → k ≡ file_length n → MovedBack file out₀ (Ok (record { size = k; year = year })) out
   back_done t e =
       let f = t.fits in
       let a = back_accepts file (length out₀) f in

@@ -1,16 +1,16 @@
 -- METHOD 7.5 to 7.8, 8.1 and 8.2, the examples of reading, writing and moving the desk file by calendar month: each row of each, the first where several
 -- apply, the years at their limits, and a series of 75 months byte by byte (shown in proofs/Examples.antt).
-use Rattle.std.specs.Prelude.{◌≡◌, List, [], ◌∷◌, ◌++◌, ℕ, ◌+◌, ◌*◌, ℤ, pos, neg_ℤ, take, drop, replicate}
+use Rattle.std.specs.Prelude.{◌≡◌, List, [], ◌∷◌, ◌++◌, ℕ, ◌+◌, ◌*◌, ℤ, pos, neg_ℤ, take, drop, replicate, Result}
+use Rattle.refusals.specs.declared.Refusal.{Refusal}
 use Rattle.integers.specs.Lists.{tab}
 use Rattle.refusals.specs.Inside.{last_year}
 use Rattle.refusals.specs.Sheet.{success, refusal}
 use Rattle.desk_forms.specs.Header.{series}
 use Rattle.desk_forms.specs.ColumnsFile.{columns_bytes}
-use Rattle.desk_file.specs.declared.Writing.{Writing}
 use Rattle.desk_file.specs.WriteFile.{write_says}
 use Rattle.desk_file.specs.Examples.{arrays_with, file_with, figure200001, weight1001, bad_at9_and40, outside, from_march, arrays_of, plain_from_march}
-use Rattle.desk_columns.specs.declared.ColumnsReading.{ColumnsReading}
-use Rattle.desk_columns.specs.declared.MovingBack.{MovingBack}
+use Rattle.desk_columns.specs.declared.ColumnsSeries.{ColumnsSeries}
+use Rattle.desk_columns.specs.declared.PlainSize.{PlainSize}
 use Rattle.desk_columns.specs.ReadColumns.{dated, read_columns_says, read_columns_answer, ReadColumnsDone}
 use Rattle.desk_columns.specs.WriteColumns.{write_columns_answer, WriteColumnsDone}
 use Rattle.desk_columns.specs.Moving.{forward_answer, MovedForward, size_and_year, back_says, back_answer, MovedBack}
@@ -145,14 +145,14 @@ file_from_march = 75 ∷ 0 ∷ 3 ∷ 12 ∷ 228 ∷ 7 ∷ arrays_of columns_from
 -- METHOD 7.7, 7.8, 8.4: what the four entry points promise of it. Slices of 76 and 77 entries, all 9, keep the last one and the last two; outputs of 458
 -- and 456 bytes keep the last two. Moved forward from the year 0 it is refused, and the output keeps all
 pub record MonthsFromMarch : Type 0 where
-  pub read : (r : ColumnsReading) (figures : List ℤ) (weights : List ℕ) → ReadColumnsDone file_from_march (replicate 76 (pos 9)) (replicate 77 9) r figures weights
+  pub read : (r : Result ColumnsSeries Refusal) (figures : List ℤ) (weights : List ℕ) → ReadColumnsDone file_from_march (replicate 76 (pos 9)) (replicate 77 9) r figures weights
       → (read_columns_says r ≡ dated 75 3 2_020) × (figures ≡ from_march.figures ++ pos 9 ∷ []) × (weights ≡ from_march.weights ++ 9 ∷ 9 ∷ [])
-  pub written : (r : Writing) (out : List ℕ) → WriteColumnsDone 2_020 from_march (replicate 458 9) r out
+  pub written : (r : Result ℕ Refusal) (out : List ℕ) → WriteColumnsDone 2_020 from_march (replicate 458 9) r out
       → (write_says r ≡ success 456) × (out ≡ file_from_march ++ 9 ∷ 9 ∷ [])
-  pub forward : (r : Writing) (out : List ℕ) → MovedForward plain_from_march 2_020 (replicate 458 9) r out
+  pub forward : (r : Result ℕ Refusal) (out : List ℕ) → MovedForward plain_from_march 2_020 (replicate 458 9) r out
       → (write_says r ≡ success 456) × (out ≡ file_from_march ++ 9 ∷ 9 ∷ [])
-  pub year_0 : (r : Writing) (out : List ℕ) → MovedForward plain_from_march 0 (replicate 458 9) r out → (write_says r ≡ refusal 11 0) × (out ≡ replicate 458 9)
-  pub back : (r : MovingBack) (out : List ℕ) → MovedBack file_from_march (replicate 456 9) r out
+  pub year_0 : (r : Result ℕ Refusal) (out : List ℕ) → MovedForward plain_from_march 0 (replicate 458 9) r out → (write_says r ≡ refusal 11 0) × (out ≡ replicate 458 9)
+  pub back : (r : Result PlainSize Refusal) (out : List ℕ) → MovedBack file_from_march (replicate 456 9) r out
       → (back_says r ≡ size_and_year 454 2_020) × (out ≡ plain_from_march ++ 9 ∷ 9 ∷ [])
 
 -- METHOD 7.5 and 7.6, some of its bytes: the first 14, which have the year and the first two Januaries, -11 and -23; the second April, month 13, at place

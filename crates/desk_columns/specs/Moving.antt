@@ -1,5 +1,6 @@
 -- METHOD 7.8 and 8: what moving a desk file from one form to the other answers, and what the lent output then holds.
-use Rattle.std.specs.Prelude.{ℕ, ◌≡◌, List, ltb, length}
+use Rattle.std.specs.Prelude.{ℕ, ◌≡◌, List, ltb, length, Result, Ok, Err}
+use Rattle.refusals.specs.declared.Refusal.{Refusal}
 use Rattle.refusals.specs.Sheet.{Answer, success, refusal_of}
 use Rattle.refusals.specs.Checks.{Check, first_to_apply}
 use Rattle.desk_forms.specs.Header.{count_in, start_in}
@@ -7,10 +8,8 @@ use Rattle.desk_forms.specs.File.{header_length, file_length, file_bytes, series
 use Rattle.desk_forms.specs.ColumnsFile.{columns_front, columns_length, columns_bytes, first_year_in, series_in_columns}
 use Rattle.desk_checks.specs.FileChecks.{years_check, file_checks}
 use Rattle.desk_forms.specs.After.{front_after}
-use Rattle.desk_file.specs.declared.Writing.{Writing}
 use Rattle.desk_file.specs.WriteFile.{write_says}
-use Rattle.desk_columns.specs.declared.MovingBack.{MovingBack}
-use Rattle.desk_columns.specs.declared.MovingBack.TheVariants.{Length, Refused}
+use Rattle.desk_columns.specs.declared.PlainSize.{PlainSize}
 use Rattle.desk_columns.specs.ReadColumns.{years_check_in}
 
 -- ---- forward: a plain file, and the first year that the caller gives
@@ -25,7 +24,7 @@ unfoldable pub forward_answer : List ℕ → ℕ → ℕ → Answer ℕ
 forward_answer file year room = first_to_apply (forward_checks file year room) (success (columns_length (count_in file)))
 
 -- METHOD 10.1 and 10.2, the promise of `to_columns`, for all inputs: the file, the first year, the output before, the answer, the output after
-pub record MovedForward (file : List ℕ) (year : ℕ) (out₀ : List ℕ) (r : Writing) (out : List ℕ) : Type 0 where
+pub record MovedForward (file : List ℕ) (year : ℕ) (out₀ : List ℕ) (r : Result ℕ Refusal) (out : List ℕ) : Type 0 where
   pub answer : write_says r ≡ forward_answer file year (length out₀)
   pub out_left : out ≡ front_after (forward_answer file year (length out₀)) (columns_bytes year (series_in file)) out₀
 
@@ -39,9 +38,9 @@ abbrev pub size_and_year : ℕ → ℕ → Answer SizeAndYear
 size_and_year size year = success (record { size = size; first_year = year })
 
 -- each case of the program's answer, as METHOD 7.8 and 8.1 have it
-abbrev pub back_says : MovingBack → Answer SizeAndYear
-back_says (Length size year) = size_and_year size year
-back_says (Refused q) = refusal_of q
+abbrev pub back_says : Result PlainSize Refusal → Answer SizeAndYear
+back_says (Ok s) = size_and_year s.size s.year
+back_says (Err q) = refusal_of q
 
 -- METHOD 8.2: the checks are those of a file by calendar month; the output, which comes in by its length, has room for the plain file
 abbrev pub back_checks : List ℕ → ℕ → List Check
@@ -52,6 +51,6 @@ unfoldable pub back_answer : List ℕ → ℕ → Answer SizeAndYear
 back_answer file room = first_to_apply (back_checks file room) (size_and_year (file_length (count_in file)) (first_year_in file))
 
 -- METHOD 10.1 and 10.2, the promise of `from_columns`, for all inputs: the file, the output before, the answer, the output after
-pub record MovedBack (file : List ℕ) (out₀ : List ℕ) (r : MovingBack) (out : List ℕ) : Type 0 where
+pub record MovedBack (file : List ℕ) (out₀ : List ℕ) (r : Result PlainSize Refusal) (out : List ℕ) : Type 0 where
   pub answer : back_says r ≡ back_answer file (length out₀)
   pub out_left : out ≡ front_after (back_answer file (length out₀)) (file_bytes (series_in_columns file)) out₀

@@ -1,12 +1,12 @@
 -- METHOD 7.7 and 8: what writing a desk file by calendar month answers, and what the lent output then holds.
-use Rattle.std.specs.Prelude.{ℕ, ◌≡◌, List, length}
+use Rattle.std.specs.Prelude.{ℕ, ◌≡◌, List, length, Result}
+use Rattle.refusals.specs.declared.Refusal.{Refusal}
 use Rattle.refusals.specs.Sheet.{Answer, success}
 use Rattle.refusals.specs.Checks.{Check, first_to_apply}
 use Rattle.desk_forms.specs.Header.{SeriesWithWeights}
 use Rattle.desk_forms.specs.ColumnsFile.{columns_front, columns_length, columns_bytes}
 use Rattle.desk_checks.specs.FileChecks.{years_check, series_checks}
 use Rattle.desk_forms.specs.After.{front_after}
-use Rattle.desk_file.specs.declared.Writing.{Writing}
 use Rattle.desk_file.specs.WriteFile.{write_says}
 
 -- METHOD 8.2: the checks of writing by calendar month, from a first year on; the output comes in by its length
@@ -19,6 +19,6 @@ write_columns_answer year s room = first_to_apply (write_columns_checks year s r
 
 -- METHOD 10.1 and 10.2, the promise of `write_columns`, for all inputs: the first year, the series with its weights, the output before, the answer,
 -- the output after
-pub record WriteColumnsDone (year : ℕ) (s : SeriesWithWeights) (out₀ : List ℕ) (r : Writing) (out : List ℕ) : Type 0 where
+pub record WriteColumnsDone (year : ℕ) (s : SeriesWithWeights) (out₀ : List ℕ) (r : Result ℕ Refusal) (out : List ℕ) : Type 0 where
   pub answer : write_says r ≡ write_columns_answer year s (length out₀)
   pub out_left : out ≡ front_after (write_columns_answer year s (length out₀)) (columns_bytes year s) out₀

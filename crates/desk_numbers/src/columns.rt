@@ -3,7 +3,6 @@ ghost use Rattle.desk_forms.specs.Header.{series};
 ghost use Rattle.desk_numbers.specs.DeskNumbers.{BackNumbers, ForwardNumbers, ReadColumnsNumbers, WriteColumnsNumbers};
 
 use crate::told;
-use desk_columns::{ColumnsReading, MovingBack};
 
 pub fn read_columns(
     file: &[u8],
@@ -18,18 +17,14 @@ pub fn read_columns(
         result count.new start.new year.new place.new figures.new weights.new }
 {
     match desk_columns::read_columns(file, figures, weights) {
-        ColumnsReading::Series {
-            count: n,
-            start: first,
-            year: y,
-        } => {
-            *count = n;
-            *start = first;
-            *year = y;
+        Ok(series) => {
+            *count = series.count;
+            *start = series.start;
+            *year = series.year;
             *place = 0;
             0
         }
-        ColumnsReading::Refused(refusal) => {
+        Err(refusal) => {
             *count = 0;
             *start = 0;
             *year = 0;
@@ -73,16 +68,13 @@ pub fn from_columns(
     ensures { BackNumbers file.now out.old result size.new year.new place.new out.new }
 {
     match desk_columns::from_columns(file, out) {
-        MovingBack::Length {
-            size: n,
-            year: first,
-        } => {
-            *size = n;
-            *year = first;
+        Ok(plain) => {
+            *size = plain.size;
+            *year = plain.year;
             *place = 0;
             0
         }
-        MovingBack::Refused(refusal) => {
+        Err(refusal) => {
             *size = 0;
             *year = 0;
             *place = refusals::place(refusal);

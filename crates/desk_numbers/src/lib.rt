@@ -5,7 +5,7 @@
 ghost use Rattle.desk_file.specs.WriteFile.{write_says};
 ghost use Rattle.desk_numbers.specs.Promises.{SizeTold};
 
-use desk_file::Writing;
+use refusals::Refusal;
 
 mod columns;
 mod plain;
@@ -14,16 +14,16 @@ pub use columns::{from_columns, read_columns, to_columns, write_columns};
 pub use plain::{read, write};
 
 // The answer of a writer, or of moving forward.
-fn told(answer: Writing, size: &mut usize, place: &mut usize) -> u8
+fn told(answer: Result<usize, Refusal>, size: &mut usize, place: &mut usize) -> u8
     ensures { SizeTold (write_says answer) result size.new place.new }
 {
     match answer {
-        Writing::Length(n) => {
+        Ok(n) => {
             *size = n;
             *place = 0;
             0
         }
-        Writing::Refused(refusal) => {
+        Err(refusal) => {
             *size = 0;
             *place = refusals::place(refusal);
             refusals::number(refusal)

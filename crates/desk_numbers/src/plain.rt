@@ -3,7 +3,6 @@ ghost use Rattle.desk_forms.specs.Header.{series};
 ghost use Rattle.desk_numbers.specs.DeskNumbers.{ReadNumbers, WriteNumbers};
 
 use crate::told;
-use desk_file::Reading;
 
 pub fn read(
     file: &[u8],
@@ -17,16 +16,13 @@ pub fn read(
         result count.new start.new place.new figures.new weights.new }
 {
     match desk_file::read(file, figures, weights) {
-        Reading::Series {
-            count: n,
-            start: first,
-        } => {
-            *count = n;
-            *start = first;
+        Ok(series) => {
+            *count = series.count;
+            *start = series.start;
             *place = 0;
             0
         }
-        Reading::Refused(refusal) => {
+        Err(refusal) => {
             *count = 0;
             *start = 0;
             *place = refusals::place(refusal);

@@ -1,9 +1,10 @@
 -- `desk_columns::from_columns` meets its contract: what moving back found.
-use Rattle.desk_columns.proofs.Answers.{back_refused, back_fits, back_done}
+use Rattle.std.proofs.lemmas.Result.{err_from_is_err_and}
+use Rattle.desk_columns.proofs.Answers.{back_refused, back_done}
 use Rattle.desk_columns.proofs.from_columns.Goals as goal
 
-pub returns-in-Refused : goal.returns-in-Refused
-returns-in-Refused c = back_refused c.move_file.ensures c.in-Refused.is
+pub returns-in_err-moved : goal.returns-in_err-moved
+returns-in_err-moved c = let p = err_from_is_err_and c.from_residual.result c.from_residual.ensures.1 in rw (p.1, p.2) (back_refused c.in_err-moved.ensures)
 
-pub returns-in-Fits : goal.returns-in-Fits
-returns-in-Fits c = back_done (back_fits c.move_file.ensures c.in-Fits.is) c.file_length-size.ensures
+pub returns : goal.returns
+returns c = back_done c.in_ok-moved.ensures c.length.ensures

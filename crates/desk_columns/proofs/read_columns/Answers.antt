@@ -1,9 +1,10 @@
 -- `desk_columns::read_columns` meets its contract: what reading by calendar month found.
+use Rattle.std.proofs.lemmas.Result.{err_from_is_err_and}
 use Rattle.desk_columns.proofs.Answers.{read_refused, read_done}
 use Rattle.desk_columns.proofs.read_columns.Goals as goal
 
-pub returns-in-Refused : goal.returns-in-Refused
-returns-in-Refused c = read_refused c.read.ensures c.in-Refused.is
+pub returns-in_err-sizes : goal.returns-in_err-sizes
+returns-in_err-sizes c = let p = err_from_is_err_and c.from_residual.result c.from_residual.ensures.1 in rw (p.1, p.2) (read_refused c.in_err-sizes.ensures)
 
-pub returns-in-Fits : goal.returns-in-Fits
-returns-in-Fits c = read_done c.read.ensures c.in-Fits.is
+pub returns : goal.returns
+returns c = read_done c.in_ok-sizes.ensures

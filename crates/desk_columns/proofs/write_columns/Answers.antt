@@ -1,9 +1,10 @@
 -- `desk_columns::write_columns` meets its contract: what writing by calendar month found.
-use Rattle.desk_columns.proofs.Answers.{write_refused, write_fits, write_done}
+use Rattle.std.proofs.lemmas.Result.{err_from_is_err_and}
+use Rattle.desk_columns.proofs.Answers.{write_refused, write_done}
 use Rattle.desk_columns.proofs.write_columns.Goals as goal
 
-pub returns-in-Refused : goal.returns-in-Refused
-returns-in-Refused c = write_refused c.write.ensures c.in-Refused.is
+pub returns-in_err-write : goal.returns-in_err-write
+returns-in_err-write c = let p = err_from_is_err_and c.from_residual.result c.from_residual.ensures.1 in rw (p.1, p.2) (write_refused c.in_err-write.ensures)
 
-pub returns-in-Fine : goal.returns-in-Fine
-returns-in-Fine c = write_done (write_fits c.write.ensures c.in-Fine.is) c.file_length.ensures
+pub returns : goal.returns
+returns c = write_done c.in_ok-write.ensures c.length.ensures
