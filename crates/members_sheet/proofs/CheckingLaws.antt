@@ -10,7 +10,7 @@ use Rattle.refusals.specs.Promises.{Before, Stopped}
 use Rattle.refusals.proofs.CheckLaws.{◌&◌, stopped-after, stopped_more}
 use Rattle.sheet_cells.specs.CellChecks.{cell_checks}
 use Rattle.members_sheet.specs.ReadSheet.{cells_from}
-use Rattle.members_sheet.specs.Promises.{AllAccepted}
+use Rattle.members_sheet.specs.AllAccepted.{AllAccepted}
 
 -- ---- as the loop goes
 pub taken_none : (sheet : List ℕ) → AllAccepted sheet 0

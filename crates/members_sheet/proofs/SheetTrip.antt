@@ -28,12 +28,13 @@ use Rattle.doubles.specs.Doubles.{double_at, unused_at, number_in, counts, IsNum
 use Rattle.doubles.proofs.Counting.{number_counts}
 use Rattle.doubles.proofs.Exact.{double-exact, zero-positive}
 use Rattle.sheet_cells.specs.declared.Cell.TheVariants.{Gap, Figure, Revision}
-use Rattle.sheet_cells.specs.declared.CellRead.{CellRead}
-use Rattle.sheet_cells.specs.declared.CellRead.TheVariants.{Known, Malformed}
+use Rattle.sheet_cells.specs.declared.Cell.{Cell}
+use Rattle.std.specs.Prelude.{Option, Some, None, Result}
+use Rattle.refusals.specs.declared.Refusal.{Refusal}
 use Rattle.sheet_cells.specs.Cells.{sheet_length, with_month, imported_at, kind_at, first_at, second_at, cell_at, newest, revision}
 use Rattle.sheet_cells.specs.CellChecks.{is_malformed, is_gap, cell_checks}
 use Rattle.sheet_cells.proofs.CellLaws.{Takes, cell-figure, cell-revision, cell_passed}
-use Rattle.members_sheet.specs.declared.SheetReading.{SheetReading}
+use Rattle.members_sheet.specs.declared.SheetSeries.{SheetSeries}
 use Rattle.members_sheet.specs.Series.{figures_in, revision_of_first, total_revision}
 use Rattle.members_sheet.specs.ReadSheet.{SheetAccepted, sheet_accepted, sheet_says, sheet_checks, sheet_answer, SheetDone}
 use Rattle.members_sheet.specs.SheetTheorems.{Entry, figure, revised, kind_of, first_bits, second_bits, newest_of, revision_of, cells_of, sheet_of, entry_at, total_of, EntryInside, InsideLimits, ReadsEntries, ReadsSeries, without_old, OldFiguresChanged, OldFigures}
@@ -98,9 +99,9 @@ at_map f (x ∷ xs) d e zero h = refl
 at_map f (x ∷ xs) d e (suc t) h = at_map f xs d e t (omega arith)
 
 -- ---- what a cell that was made means
-abbrev meant : ℕ → Entry → CellRead
-meant t (figure z) = Known (Figure (with_month t (double_of z)))
-meant t (revised old new) = Known (Revision (with_month t (double_of old)) (with_month t (double_of new)))
+abbrev meant : ℕ → Entry → Option Cell
+meant t (figure z) = Some (Figure (with_month t (double_of z)))
+meant t (revised old new) = Some (Revision (with_month t (double_of old)) (with_month t (double_of new)))
 
 exact : (z : ℤ) → figure_inside z ≡ true → IsNumber (double_of z) z
 exact z h = double-exact z (omega (arith, figure-inside z h))
@@ -127,11 +128,11 @@ bits_back z e = ap (of_bits binary64) e ∙ of_bits-to_bits binary64 (double_of 
 cell_meant : (sheet : List ℕ) (t : ℕ) (e : Entry) → kind_at sheet t ≡ kind_of e → number_at sheet (first_at sheet t) 8 ≡ first_bits e → number_at sheet (second_at sheet t) 8 ≡ second_bits e
     → cell_at sheet t ≡ meant t e
 unfolding double_at unused_at imported_at
-cell_meant sheet t (figure z) k f s = cell-figure sheet t k (rw s) ∙ ap (λ (x : Float). Known (Figure (with_month t x))) (bits_back z f)
+cell_meant sheet t (figure z) k f s = cell-figure sheet t k (rw s) ∙ ap (λ (x : Float). Some (Figure (with_month t x))) (bits_back z f)
 cell_meant sheet t (revised old new) k f s =
     cell-revision sheet t k
-    ∙ ap (λ (x : Float). Known (Revision (with_month t x) (imported_at sheet t (second_at sheet t)))) (bits_back old f)
-    ∙ ap (λ (x : Float). Known (Revision (with_month t (double_of old)) (with_month t x))) (bits_back new s)
+    ∙ ap (λ (x : Float). Some (Revision (with_month t x) (imported_at sheet t (second_at sheet t)))) (bits_back old f)
+    ∙ ap (λ (x : Float). Some (Revision (with_month t (double_of old)) (with_month t x))) (bits_back new s)
 
 -- ---- the sheet of a series
 module _ (start : ℕ) (entries : List Entry) where
@@ -275,23 +276,23 @@ abbrev start_of : Answer SheetAccepted → ℕ
 start_of (success a) = a.start
 start_of (answers.refusal number place) = 0
 
-newest-same : (c : CellRead) → newest (without_old c) ≡ newest c
-newest-same Malformed = refl
-newest-same (Known Gap) = refl
-newest-same (Known (Figure x)) = refl
-newest-same (Known (Revision old new)) = refl
+newest-same : (c : Option Cell) → newest (without_old c) ≡ newest c
+newest-same None = refl
+newest-same (Some Gap) = refl
+newest-same (Some (Figure x)) = refl
+newest-same (Some (Revision old new)) = refl
 
-malformed_same : (c : CellRead) → is_malformed (without_old c) ≡ is_malformed c
-malformed_same Malformed = refl
-malformed_same (Known Gap) = refl
-malformed_same (Known (Figure x)) = refl
-malformed_same (Known (Revision old new)) = refl
+malformed_same : (c : Option Cell) → is_malformed (without_old c) ≡ is_malformed c
+malformed_same None = refl
+malformed_same (Some Gap) = refl
+malformed_same (Some (Figure x)) = refl
+malformed_same (Some (Revision old new)) = refl
 
-gap_same : (c : CellRead) → is_gap (without_old c) ≡ is_gap c
-gap_same Malformed = refl
-gap_same (Known Gap) = refl
-gap_same (Known (Figure x)) = refl
-gap_same (Known (Revision old new)) = refl
+gap_same : (c : Option Cell) → is_gap (without_old c) ≡ is_gap c
+gap_same None = refl
+gap_same (Some Gap) = refl
+gap_same (Some (Figure x)) = refl
+gap_same (Some (Revision old new)) = refl
 
 module _ {sheet sheet' : List ℕ} (o : OldFiguresChanged sheet sheet') where
   same-series : figures_in sheet ≡ figures_in sheet'
@@ -330,7 +331,7 @@ module _ {sheet sheet' : List ℕ} (o : OldFiguresChanged sheet sheet') where
       & checking.all_passed (record { each = λ t l. let k : t < count_in sheet = omega (arith, o.same_count) in cell_taken' t k (taken.each t k) }))))
 
 -- what a success leaves
-success-leaves : (sheet : List ℕ) (figures₀ left : List ℤ) (r : SheetReading) (a : SheetAccepted) → SheetDone sheet figures₀ r left → sheet_says r ≡ success a
+success-leaves : (sheet : List ℕ) (figures₀ left : List ℤ) (r : Result SheetSeries Refusal) (a : SheetAccepted) → SheetDone sheet figures₀ r left → sheet_says r ≡ success a
     → left ≡ figures_in sheet ++ drop (length (figures_in sheet)) figures₀
 success-leaves sheet figures₀ left r a p e = p.figures_left ∙ ap (λ (s : Answer SheetAccepted). front_after s (figures_in sheet) figures₀) (sym p.answer ∙ e)
 

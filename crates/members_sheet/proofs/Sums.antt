@@ -13,11 +13,11 @@ use Rattle.doubles.specs.Doubles.{number_in, IsNumber, double_of}
 use Rattle.doubles.proofs.Counting.{counts-number, counts-size}
 use Rattle.doubles.proofs.Exact.{double-exact, zero-positive, difference_exact, sum_exact}
 use Rattle.sheet_cells.specs.declared.Cell.TheVariants.{Gap, Figure, Revision}
-use Rattle.sheet_cells.specs.declared.CellRead.{CellRead}
-use Rattle.sheet_cells.specs.declared.CellRead.TheVariants.{Known, Malformed}
+use Rattle.sheet_cells.specs.declared.Cell.{Cell}
+use Rattle.std.specs.Prelude.{Option, Some, None}
 use Rattle.sheet_cells.specs.Cells.{cell_at, revision, difference, revised_by}
 use Rattle.members_sheet.specs.Series.{revision_of_first, summed, StepExact}
-use Rattle.members_sheet.specs.Promises.{AllAccepted}
+use Rattle.members_sheet.specs.AllAccepted.{AllAccepted}
 use Rattle.sheet_cells.proofs.CellLaws.{Takes, taken}
 
 -- ---- one month more
@@ -29,27 +29,27 @@ summed-more sheet t e = let n : t + 1 ≡ suc t = omega arith in rw (e, n)
 nothing_added : (z : ℤ) → z ≡ z +ℤ pos 0
 nothing_added z = rw (rep z) (simp ringℤ (omega arith))
 
-cell_size : (c : CellRead) → Takes c → nat_abs (revision c) ≤ 400000
-cell_size Malformed h = absurd h
-cell_size (Known Gap) h = absurd h
-cell_size (Known (Figure figure)) h = omega arith
-cell_size (Known (Revision old new)) h = omega (arith, abs-sub (number_in new.double) (number_in old.double), counts-size old.double h.0, counts-size new.double h.1)
+cell_size : (c : Option Cell) → Takes c → nat_abs (revision c) ≤ 400000
+cell_size None h = absurd h
+cell_size (Some Gap) h = absurd h
+cell_size (Some (Figure figure)) h = omega arith
+cell_size (Some (Revision old new)) h = omega (arith, abs-sub (number_in new.double) (number_in old.double), counts-size old.double h.0, counts-size new.double h.1)
 
-cell-difference : (c : CellRead) → Takes c → IsNumber (difference c) (revision c)
-cell-difference Malformed h = absurd h
-cell-difference (Known Gap) h = absurd h
-cell-difference (Known (Figure figure)) h = subst (λ (x : Float). IsNumber x (pos 0)) zero-positive (double-exact (pos 0) (omega arith))
-cell-difference (Known (Revision old new)) h =
+cell-difference : (c : Option Cell) → Takes c → IsNumber (difference c) (revision c)
+cell-difference None h = absurd h
+cell-difference (Some Gap) h = absurd h
+cell-difference (Some (Figure figure)) h = subst (λ (x : Float). IsNumber x (pos 0)) zero-positive (double-exact (pos 0) (omega arith))
+cell-difference (Some (Revision old new)) h =
     let x = new.double in
     let y = old.double in
     difference_exact x y (number_in x) (number_in y) (omega (arith, counts-size x h.1)) (omega (arith, counts-size y h.0)) (counts-number x h.1) (counts-number y h.0)
 
-cell-sum : (c : CellRead) (z : ℤ) → Takes c → nat_abs z ≤ 240000000 → revised_by (double_of z) c ≡ double_of (z +ℤ revision c)
-cell-sum Malformed z h l = absurd h
-cell-sum (Known Gap) z h l = absurd h
-cell-sum (Known (Figure figure)) z h l = ap double_of (nothing_added z)
-cell-sum (Known (Revision old new)) z h l =
-    sum_exact z (revision (Known (Revision old new))) (difference (Known (Revision old new))) (omega arith) (cell-difference (Known (Revision old new)) h)
+cell-sum : (c : Option Cell) (z : ℤ) → Takes c → nat_abs z ≤ 240000000 → revised_by (double_of z) c ≡ double_of (z +ℤ revision c)
+cell-sum None z h l = absurd h
+cell-sum (Some Gap) z h l = absurd h
+cell-sum (Some (Figure figure)) z h l = ap double_of (nothing_added z)
+cell-sum (Some (Revision old new)) z h l =
+    sum_exact z (revision (Some (Revision old new))) (difference (Some (Revision old new))) (omega arith) (cell-difference (Some (Revision old new)) h)
 
 -- ---- all of them
 module _ (sheet : List ℕ) (n : ℕ) (most : n ≤ most_months) (a : AllAccepted sheet n) where

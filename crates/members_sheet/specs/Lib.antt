@@ -5,4 +5,5 @@ pub mod Series
 pub mod ReadSheet
 pub mod SheetTheorems
 pub mod Examples
+pub mod AllAccepted
 pub mod Promises

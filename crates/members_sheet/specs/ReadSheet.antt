@@ -1,5 +1,5 @@
 -- METHOD 7.12 and 8: what reading a members' sheet answers, and what the lent slice then holds.
-use Rattle.std.specs.Prelude.{ℕ, zero, suc, ◌≡◌, not, List, [], ◌∷◌, ◌++◌, ltb, eqb, ℤ, length, Float}
+use Rattle.std.specs.Prelude.{ℕ, zero, suc, ◌≡◌, not, List, [], ◌∷◌, ◌++◌, ltb, eqb, ℤ, length, Float, Result, Ok, Err}
 use Rattle.refusals.specs.Sheet.{Answer, success, refusal_of}
 use Rattle.refusals.specs.Checks.{Check, check_row, row1, row2, row3, first_to_apply}
 use Rattle.desk_forms.specs.Header.{count_in, start_in}
@@ -7,8 +7,8 @@ use Rattle.desk_forms.specs.After.{front_after}
 use Rattle.doubles.specs.Doubles.{double_of}
 use Rattle.sheet_cells.specs.Cells.{sizes_length, sheet_length}
 use Rattle.sheet_cells.specs.CellChecks.{cell_checks}
-use Rattle.members_sheet.specs.declared.SheetReading.{SheetReading}
-use Rattle.members_sheet.specs.declared.SheetReading.TheVariants.{Series, Refused}
+use Rattle.refusals.specs.declared.Refusal.{Refusal}
+use Rattle.members_sheet.specs.declared.SheetSeries.{SheetSeries}
 use Rattle.members_sheet.specs.Series.{figures_in, total_revision, TotalExact}
 
 -- METHOD 8.2: rows 12 to 14 of k cells, from the cell of month t on: each cell is checked whole before the next
@@ -38,9 +38,9 @@ abbrev pub sheet_accepted : ℕ → ℕ → Float → Answer SheetAccepted
 sheet_accepted n start total = success (record { count = n; start = start; total = total })
 
 -- each case of the program's answer, as METHOD 7.12 and 8.1 have it
-abbrev pub sheet_says : SheetReading → Answer SheetAccepted
-sheet_says (Series n start total) = sheet_accepted n start total
-sheet_says (Refused q) = refusal_of q
+abbrev pub sheet_says : Result SheetSeries Refusal → Answer SheetAccepted
+sheet_says (Ok series) = sheet_accepted series.count series.start series.total
+sheet_says (Err q) = refusal_of q
 
 -- METHOD 8.2: the answer is the first that applies, else n, the start month, and the double of the exact total revision (7.13)
 unfoldable pub sheet_answer : List ℕ → ℕ → Answer SheetAccepted
@@ -48,7 +48,7 @@ sheet_answer sheet room = first_to_apply (sheet_checks sheet room) (sheet_accept
 
 -- METHOD 10.1 and 10.2, the promise of `read_sheet`, for all inputs: the sheet and the slice before, the answer, the slice after. `answer` and
 -- `figures_left` settle all; that the total of a success is exact, with every step to it (7.13), is carried along, so that no caller has to derive it
-pub record SheetDone (sheet : List ℕ) (figures₀ : List ℤ) (r : SheetReading) (figures : List ℤ) : Type 0 where
+pub record SheetDone (sheet : List ℕ) (figures₀ : List ℤ) (r : Result SheetSeries Refusal) (figures : List ℤ) : Type 0 where
   pub answer : sheet_says r ≡ sheet_answer sheet (length figures₀)
   pub figures_left : figures ≡ front_after (sheet_answer sheet (length figures₀)) (figures_in sheet) figures₀
   pub exact : (a : SheetAccepted) → sheet_says r ≡ success a → TotalExact sheet a.total

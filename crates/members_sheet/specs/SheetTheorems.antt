@@ -1,6 +1,6 @@
 -- METHOD 7.14: the theorems on members' sheets, in full; the names in brackets are those of their proofs, in proofs/SheetTrip.antt. They speak of what
 -- `read_sheet` promises, `SheetDone`.
-use Rattle.std.specs.Prelude.{ℕ, ◌≤◌, ◌<◌, ◌≡◌, true, List, [], ◌∷◌, ◌++◌, map, ℤ, pos, ◌-ℤ◌, length, get_or, drop, Float}
+use Rattle.std.specs.Prelude.{ℕ, ◌≤◌, ◌<◌, ◌≡◌, true, Result, List, [], ◌∷◌, ◌++◌, map, ℤ, pos, ◌-ℤ◌, length, get_or, drop, Float, Option, Some, None}
 use Rattle.std.specs.Float.{binary64}
 use Rattle.std.specs.Float.Ieee.{to_bits}
 use Rattle.integers.specs.Sums.{sum_z}
@@ -11,11 +11,11 @@ use Rattle.little_endian.specs.Bytes.{bytes_of}
 use Rattle.desk_forms.specs.Header.{count_in, start_in}
 use Rattle.doubles.specs.Doubles.{double_of, positive_zero}
 use Rattle.sheet_cells.specs.declared.Cell.TheVariants.{Gap, Figure, Revision}
-use Rattle.sheet_cells.specs.declared.CellRead.{CellRead}
-use Rattle.sheet_cells.specs.declared.CellRead.TheVariants.{Known, Malformed}
+use Rattle.sheet_cells.specs.declared.Cell.{Cell}
 use Rattle.sheet_cells.specs.Cells.{with_month, cell_at}
 use Rattle.sheet_cells.specs.CellChecks.{all_count}
-use Rattle.members_sheet.specs.declared.SheetReading.{SheetReading}
+use Rattle.refusals.specs.declared.Refusal.{Refusal}
+use Rattle.members_sheet.specs.declared.SheetSeries.{SheetSeries}
 use Rattle.members_sheet.specs.ReadSheet.{SheetAccepted, sheet_accepted, sheet_says, SheetDone}
 
 -- ---- a sheet made from a series
@@ -73,14 +73,14 @@ pub record InsideLimits (start : ℕ) (entries : List Entry) : Type 0 where
   pub each : (t : ℕ) → t < length entries → EntryInside (entry_at entries t)
 
 -- reading gave this series and total: as many months, from this start month; the figures in the first places of the slice, the rest as before
-pub record ReadBack (start : ℕ) (figures : List ℤ) (total : Float) (figures₀ : List ℤ) (r : SheetReading) (left : List ℤ) : Type 0 where
+pub record ReadBack (start : ℕ) (figures : List ℤ) (total : Float) (figures₀ : List ℤ) (r : Result SheetSeries Refusal) (left : List ℤ) : Type 0 where
   pub answer : sheet_says r ≡ sheet_accepted (length figures) start total
   pub figures_left : left ≡ figures ++ drop (length figures) figures₀
 
 -- METHOD 7.14: the sheet of a series with revisions reads back as the series of the newest figures, and the total is that of its revisions, into a slice
 -- with room for it (entries_back)
 abbrev pub ReadsEntries : Type 0
-ReadsEntries = (start : ℕ) (entries : List Entry) (figures₀ left : List ℤ) (r : SheetReading)
+ReadsEntries = (start : ℕ) (entries : List Entry) (figures₀ left : List ℤ) (r : Result SheetSeries Refusal)
     → InsideLimits start entries
     → length entries ≤ length figures₀
     → SheetDone (sheet_of start entries) figures₀ r left
@@ -88,7 +88,7 @@ ReadsEntries = (start : ℕ) (entries : List Entry) (figures₀ left : List ℤ)
 
 -- METHOD 7.14: the sheet of a series in which every month is of kind 1 reads back as that series, and the total is positive zero (series-back)
 abbrev pub ReadsSeries : Type 0
-ReadsSeries = (start : ℕ) (figures figures₀ left : List ℤ) (r : SheetReading)
+ReadsSeries = (start : ℕ) (figures figures₀ left : List ℤ) (r : Result SheetSeries Refusal)
     → InsideLimits start (map figure figures)
     → length figures ≤ length figures₀
     → SheetDone (sheet_of start (map figure figures)) figures₀ r left
@@ -96,11 +96,11 @@ ReadsSeries = (start : ℕ) (figures figures₀ left : List ℤ) (r : SheetReadi
 
 -- ---- old figures of revisions
 -- a cell without its old figure: positive zero stands there
-abbrev pub without_old : CellRead → CellRead
-without_old Malformed = Malformed
-without_old (Known Gap) = Known Gap
-without_old (Known (Figure x)) = Known (Figure x)
-without_old (Known (Revision old new)) = Known (Revision (with_month old.month positive_zero) new)
+abbrev pub without_old : Option Cell → Option Cell
+without_old None = None
+without_old (Some Gap) = Some Gap
+without_old (Some (Figure x)) = Some (Figure x)
+without_old (Some (Revision old new)) = Some (Revision (with_month old.month positive_zero) new)
 
 -- two sheets that differ in nothing but old figures; every double that the second uses counts (where the first is accepted, this asks it of old
 -- figures alone)
@@ -112,14 +112,14 @@ pub record OldFiguresChanged (sheet sheet' : List ℕ) : Type 0 where
   pub counting : (t : ℕ) → t < count_in sheet → all_count (cell_at sheet' t) ≡ true
 
 -- the same series: as many months from the same start month, and the same left in the slice
-pub record SameSeries (a : SheetAccepted) (left : List ℤ) (r' : SheetReading) (left' : List ℤ) : Type 0 where
+pub record SameSeries (a : SheetAccepted) (left : List ℤ) (r' : Result SheetSeries Refusal) (left' : List ℤ) : Type 0 where
   pub total' : Float
   pub answer : sheet_says r' ≡ sheet_accepted a.count a.start total'
   pub same_left : left ≡ left'
 
 -- METHOD 7.14: where a sheet is accepted, so is one that differs in old figures alone, and it gives the same series (old_figures)
 abbrev pub OldFigures : Type 0
-OldFigures = (sheet sheet' : List ℕ) (figures₀ left left' : List ℤ) (r r' : SheetReading) (a : SheetAccepted)
+OldFigures = (sheet sheet' : List ℕ) (figures₀ left left' : List ℤ) (r r' : Result SheetSeries Refusal) (a : SheetAccepted)
     → OldFiguresChanged sheet sheet'
     → SheetDone sheet figures₀ r left
     → SheetDone sheet' figures₀ r' left'

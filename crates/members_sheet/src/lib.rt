@@ -8,33 +8,23 @@ use refusals::Refusal;
 mod checking;
 mod filling;
 
-// What the checks find: the months and the start month of the series, or why the sheet is refused.
+// What reading answers: the months, the start month and the total revision of the series.
 #[derive(Clone, Copy)]
-pub enum SheetChecked {
-    Fits { count: usize, start: u8 },
-    Refused(Refusal),
-}
-
-// What reading answers: the months, the start month and the total revision of the series, or why the sheet is refused.
-#[derive(Clone, Copy)]
-pub enum SheetReading {
-    Series { count: usize, start: u8, total: f64 },
-    Refused(Refusal),
+pub struct SheetSeries {
+    pub count: usize,
+    pub start: u8,
+    pub total: f64,
 }
 
 // Reads a members' sheet: every cell is accepted before the first n places of the slice are filled; the rest stays.
-pub fn read_sheet(sheet: &[u8], figures: &mut [i32]) -> SheetReading
+pub fn read_sheet(sheet: &[u8], figures: &mut [i32]) -> Result<SheetSeries, Refusal>
     ensures { SheetDone sheet.now figures.old result figures.new }
 {
-    match checking::check_sheet(sheet, figures.len()) {
-        SheetChecked::Refused(refusal) => SheetReading::Refused(refusal),
-        SheetChecked::Fits { count, start } => {
-            let total = filling::fill(sheet, count, figures);
-            SheetReading::Series {
-                count,
-                start,
-                total,
-            }
-        }
-    }
+    let accepted = checking::check_sheet(sheet, figures.len())?;
+    let total = accepted.fill(figures);
+    Ok(SheetSeries {
+        count: accepted.cells.n,
+        start: accepted.start,
+        total,
+    })
 }

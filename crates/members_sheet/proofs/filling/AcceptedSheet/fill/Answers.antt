@@ -18,7 +18,7 @@ use Rattle.sheet_cells.specs.Promises.{OfMonth}
 use Rattle.sheet_cells.proofs.CellLaws.{cell-month, taken, newest-counts}
 use Rattle.members_sheet.specs.Series.{figures_in, summed}
 use Rattle.members_sheet.proofs.Sums.{summed-more}
-use Rattle.members_sheet.proofs.filling.fill.Goals as goal
+use Rattle.members_sheet.proofs.filling.AcceptedSheet.fill.Goals as goal
 
 -- the parts of what a cell brings in
 months : {d : Imported} {t : ℕ} {x : Float} → d ≡ with_month t x → d.month ≡ t
@@ -33,35 +33,30 @@ more-at {f} {t} {m} {v} {old} {new} p l e q = subst (λ (k : ℕ). Filled (pos 0
 
 pub loop-t-init : goal.loop-t-init
 unfolding summed
-loop-t-init c = (omega arith, filled_none, zero_bits)
-
-pub cell_at-cell-requires : goal.cell_at-cell-requires
-cell_at-cell-requires c = (c.requires.0, omega arith)
+loop-t-init c = (filled_none, zero_bits)
 
 pub import-imported-requires : goal.import-imported-requires
-import-imported-requires c = subst (OfMonth c.loop-t.t) (sym c.cell_at-cell.ensures) (cell-month c.args.sheet.now c.loop-t.t)
+import-imported-requires c = subst (OfMonth c.loop-t.t) (sym c.cell_at-cell.ensures) (cell-month c.args.self.now.cells.sheet.now c.loop-t.t)
 
 pub number_of-requires : goal.number_of-requires
 number_of-requires c =
+    let a = c.args.self.now in
     let t = c.loop-t.t in
     ap counts (doubled c.import-imported.ensures ∙ ap newest c.cell_at-cell.ensures)
-    ∙ newest-counts (cell_at c.args.sheet.now t) (taken c.args.sheet.now t (c.requires.1.each t (omega arith)))
+    ∙ newest-counts (cell_at a.cells.sheet.now t) (taken a.cells.sheet.now t (a.each_accepted.each t c.loop-t-test.true))
 
 pub loop-t-preserved : goal.loop-t-preserved
 loop-t-preserved c =
     let z = to_z-of_z {w = w32} (sfits_of c.number_of.type_inv) ∙ c.number_of.ensures ∙ ap number_in (doubled c.import-imported.ensures ∙ ap newest c.cell_at-cell.ensures) in (
-      omega arith,
-      more-at c.loop-t.invariant.1 (omega arith) (months c.import-imported.ensures) z,
-      c.with_revision-total.ensures ∙ ap (revised_by c.loop-t.total) c.cell_at-cell.ensures ∙ summed-more _ c.loop-t.t c.loop-t.invariant.2,
+      more-at c.loop-t.invariant.0 (omega (arith, c.loop-t-test.true, c.loop-t.auto.figures, c.requires)) (months c.import-imported.ensures) z,
+      c.with_revision-total.ensures ∙ ap (revised_by c.loop-t.total) c.cell_at-cell.ensures ∙ summed-more _ c.loop-t.t c.loop-t.invariant.1,
     )
-
-pub shape_of-figures : goal.shape_of-figures
-shape_of-figures c = c.loop-t.invariant.1.long
 
 pub returns : goal.returns
 unfolding figures_in
 returns c =
-    let e : c.loop-t.t ≡ c.args.n = omega arith in (
-      rw (← c.requires.0.count) (filled_front c.loop-t.invariant.1 e (omega (arith, c.requires.2))),
-      c.loop-t.invariant.2 ∙ ap (summed c.args.sheet.now) e,
+    let a = c.args.self.now in
+    let e : c.loop-t.t ≡ a.cells.n = omega (arith, c.loop-t-test.false, c.loop-t.auto.t-end) in (
+      rw (← a.cells.has_cells.count) (filled_front c.loop-t.invariant.0 e (omega (arith, c.requires))),
+      c.loop-t.invariant.1 ∙ ap (summed a.cells.sheet.now) e,
     )
