@@ -1,12 +1,11 @@
 -- What is printed, by the promises of decomposing and of reading.
 use Prim.Native.Nat.{ℕ, ◌+◌, ◌≤◌}
-use mathlib.Core.Path.{◌≡◌, sym, ap, subst, ◌∙◌}
+use mathlib.Core.Path.{◌≡◌, sym, ap, ◌∙◌}
 use mathlib.Core.List.{List, [], ◌++◌}
 use native.Mathlib.Omega.{arith}
 use lib.IntN.{ℤ}
 use lib.ListN.{length, take, drop, length-take}
 use lib.Seq.{length-take-le, take_at, sets-eq}
-use Rattle.integers.proofs.Fronts.{front_kept}
 use Rattle.refusals.specs.declared.Refusal.{Refusal}
 use Rattle.refusals.specs.Limits.{most_months}
 use Rattle.refusals.specs.Sheet.{Answer, success, row}
@@ -19,13 +18,11 @@ use Rattle.desk_file.proofs.Answers.{read_sized}
 use Rattle.decompose.specs.declared.Decomposed.{Decomposed}
 use Rattle.decompose.specs.declared.Decomposed.TheVariants.{Tables, Refused}
 use Rattle.decompose.specs.Promise.{Slices, Promise, answer, after, says, lengths_of}
-use Rattle.decimals.specs.Storing.{Stored}
+use Rattle.decimals.specs.declared.Text.{Text}
+use Rattle.decimals.specs.Storing.{Stored, Put}
+use Rattle.decimals.proofs.StoringLaws.{put-then, put_short}
 use Rattle.print_lines.specs.Text.{refused_line, tables_text, text_room}
 use Rattle.print_tables.specs.Printed.{lent_for, series_answer, tables_of, decomposed_text, series_text, unread_text, read_text, printed, PrintDone}
-
--- the front of an array still has room after it was lent
-pub front_room : {A : Type 0} (k : ℕ) (l : List A) → k ≤ length l → (m : List A) → length m ≡ length (take k l) → k ≤ length (m ++ drop k l)
-front_room k l h m e = omega (arith, front_kept k l h m e)
 
 -- the text of a file that is stored at the front of an array with room for every text
 pub print_done : {file out₀ out : List ℕ} {r : ℕ} → text_room ≤ length out₀ → Stored text_room out₀ 0 (printed file) r out → PrintDone file out₀ r out
@@ -34,10 +31,9 @@ print_done {file} {out₀} {r} h s =
     let l : 0 + length (printed file) ≡ r = omega arith in
     record { answer = e; out_left = s.stored ∙ sets-eq (printed file) out₀ 0 (omega (arith, s.short)) ∙ ap (λ (k : ℕ). printed file ++ drop k out₀) l }
 
--- what is stored where nothing was put before
-pub after_nothing : {most : ℕ} {before mid after bytes : List ℕ} {at m next : ℕ} → Stored most before at [] m mid → Stored most mid at bytes next after
-    → Stored most before at bytes next after
-after_nothing {most} {after = after} {bytes} {at} {next = next} p q = subst (λ (l : List ℕ). Stored most l at bytes next after) p.stored q
+-- what is put where nothing was put before
+pub after_nothing : {a most : ℕ} {x y z : Text} {bytes : List ℕ} → Put a x [] y → Put most y bytes z → Put most x bytes z
+after_nothing p q = put_short (put-then p q) q.stored.short
 
 -- ---- decomposing
 -- the slices that are lent: the fronts of arrays

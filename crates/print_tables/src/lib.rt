@@ -1,21 +1,22 @@
-// METHOD 9, the printing program: a desk file into the text of its tables, put together in a byte array. A function that puts something
-// answers the place after it.
+// METHOD 9, the printing program: a desk file into the text of its tables, put together in a byte array.
 #![tactic(auto)]
 
-ghost use Rattle.std.specs.Prelude.{◌≤◌, length};
+ghost use Rattle.std.specs.Prelude.{◌+◌, ◌≤◌, length};
 ghost use Rattle.refusals.specs.Limits.{most_months};
-ghost use Rattle.decimals.specs.Storing.{Stored};
+ghost use Rattle.decimals.specs.Storing.{Put};
 ghost use Rattle.desk_file.specs.ReadFile.{read_says};
 ghost use Rattle.print_lines.specs.Text.{text_room};
-ghost use Rattle.print_tables.specs.Printed.{PrintDone, series_text, unread_text};
+ghost use Rattle.print_tables.specs.Printed.{PrintDone, printed, series_text, unread_text};
 
+use decimals::Text;
 use decompose::Decomposed;
 use desk_file::Reading;
+use print_lines::Tables;
 
 // The text of a series: its tables, or the line of decomposing's refusal.
-fn put_series(out: &mut [u8], start: u8, figures: &[i32]) -> usize
-    requires { (text_room ≤ length out.old) × (length figures.now ≤ most_months) }
-    ensures { Stored text_room out.old 0 (series_text start figures.now) result out.new }
+fn put_series(text: &mut Text<'_>, start: u8, figures: &[i32])
+    requires { (text.old.at + text_room ≤ length text.old.out.now) × (length figures.now ≤ most_months) }
+    ensures { Put text_room text.old (series_text start figures.now) text.new }
 {
     let n = figures.len();
     let mut d10 = [0i64; refusals::MOST_MONTHS];
@@ -37,43 +38,51 @@ fn put_series(out: &mut [u8], start: u8, figures: &[i32]) -> usize
         &mut scratch,
     );
     match answer {
-        Decomposed::Tables => print_lines::put_tables(
-            out,
-            start,
-            figures,
-            &d10[..n],
-            &d11[..n],
-            &d12[..n],
-            &d13[..n],
-            &c17[..n],
-        ),
-        Decomposed::Refused(refusal) => print_lines::put_refusal(out, refusal),
+        Decomposed::Tables => {
+            let tables = Tables {
+                figures,
+                d10: &d10[..n],
+                d11: &d11[..n],
+                d12: &d12[..n],
+                d13: &d13[..n],
+                c17: &c17[..n],
+            };
+            tables.put(text, start);
+        }
+        Decomposed::Refused(refusal) => print_lines::put_refusal(text, refusal),
     }
 }
 
 // The line of a refusal by the reader; nothing for a file that it accepts.
-fn put_unread(out: &mut [u8], answer: Reading) -> usize
-    requires { text_room ≤ length out.old }
-    ensures { Stored text_room out.old 0 (unread_text (read_says answer)) result out.new }
+fn put_unread(text: &mut Text<'_>, answer: Reading)
+    requires { text.old.at + text_room ≤ length text.old.out.now }
+    ensures { Put text_room text.old (unread_text (read_says answer)) text.new }
 {
     if let Reading::Refused(refusal) = answer {
-        print_lines::put_refusal(out, refusal)
-    } else {
-        0
+        print_lines::put_refusal(text, refusal);
     }
 }
 
-// The text of a desk file: an accepted series goes on, a refusal has put its one line and ends. It stands at the front of `out`, and its length is
-// the answer.
-pub fn put_file(out: &mut [u8; print_lines::TEXT_ROOM], file: &[u8]) -> usize
-    ensures { PrintDone file.now out.old result out.new }
+// The text of a desk file: an accepted series goes on, a refusal has put its one line and ends.
+fn put_text(text: &mut Text<'_>, file: &[u8])
+    requires { text.old.at + text_room ≤ length text.old.out.now }
+    ensures { Put text_room text.old (printed file.now) text.new }
 {
     let mut figures = [0i32; refusals::MOST_MONTHS];
     let mut weights = [0u16; refusals::MOST_MONTHS];
     let answer = desk_file::read(file, &mut figures, &mut weights);
-    let refused = put_unread(out, answer);
+    put_unread(text, answer);
     let Reading::Series { count, start } = answer else {
-        return refused;
+        return;
     };
-    put_series(out, start, &figures[..count])
+    put_series(text, start, &figures[..count]);
+}
+
+// The same at the front of an array; its length is the answer.
+pub fn put_file(out: &mut [u8; print_lines::TEXT_ROOM], file: &[u8]) -> usize
+    ensures { PrintDone file.now out.old result out.new }
+{
+    let mut text = Text::new(out);
+    put_text(&mut text, file);
+    text.at
 }

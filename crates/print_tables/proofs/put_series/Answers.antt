@@ -1,44 +1,26 @@
 -- `print_tables::put_series` meets its contract: the first n places of each array are lent, and then hold the tables.
-use mathlib.Core.Path.{refl, sym}
+use mathlib.Core.Path.{refl}
 use native.Mathlib.Omega.{arith}
-use Rattle.integers.proofs.Fronts.{front_back, front_long}
-use Rattle.decimals.proofs.StoringLaws.{stored-eq, stored-within}
-use Rattle.print_tables.proofs.PrintLaws.{front_room, fronts_lent, tables-printed, refusal-printed}
+use Rattle.integers.proofs.Fronts.{front_back}
+use Rattle.decimals.proofs.StoringLaws.{put-eq, put-within}
+use Rattle.print_tables.proofs.PrintLaws.{fronts_lent, tables-printed, refusal-printed}
 use Rattle.print_tables.proofs.put_series.Goals as goal
-
-pub put_tables-requires : goal.put_tables-requires
-put_tables-requires c =
-    let d = c.decompose-answer in
-    let long = c.requires.1 in (
-      c.requires.0,
-      long,
-      record {
-        in10 = sym (front_long _ _ (front_room _ _ long d.new.d10 d.auto.d10));
-        in11 = sym (front_long _ _ (front_room _ _ long d.new.d11 d.auto.d11));
-        in12 = sym (front_long _ _ (front_room _ _ long d.new.d12 d.auto.d12));
-        in13 = sym (front_long _ _ (front_room _ _ long d.new.d13 d.auto.d13));
-        in17 = sym (front_long _ _ (front_room _ _ long d.new.c17 d.auto.c17));
-      },
-    )
 
 pub returns-in-Tables : goal.returns-in-Tables
 returns-in-Tables c =
     let d = c.decompose-answer in
     let long = c.requires.1 in
-    stored-eq
+    put-eq
     (tables-printed d.ensures (fronts_lent _ _ _ _ long long refl) c.in-Tables.is
     (front_back _ _ long d.new.d10 d.auto.d10)
     (front_back _ _ long d.new.d11 d.auto.d11)
     (front_back _ _ long d.new.d12 d.auto.d12)
     (front_back _ _ long d.new.d13 d.auto.d13)
     (front_back _ _ long d.new.c17 d.auto.c17))
-    c.put_tables.ensures
+    c.put.ensures
 
 pub returns-in-Refused : goal.returns-in-Refused
 returns-in-Refused c =
-    let long = c.requires.1 in
-    stored-within
-    (stored-eq
-    (refusal-printed c.decompose-answer.ensures (fronts_lent _ _ _ _ long long refl) _ c.in-Refused.is)
-    c.put_refusal.ensures)
+    put-within
+    (put-eq (refusal-printed c.decompose-answer.ensures (fronts_lent _ _ _ _ c.requires.1 c.requires.1 refl) _ c.in-Refused.is) c.put_refusal.ensures)
     (omega arith)
