@@ -1,3 +1,2 @@
--- What holds of an input that is longer than a desk file, and of what a read leaves.
-mod InputLaws
+-- What holds of an input that is longer than a desk file.
 pub mod LongFiles

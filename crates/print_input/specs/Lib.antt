@@ -1,2 +1,2 @@
--- The crate's root: what reading the input leaves, and the text of an input from its first bytes.
+-- The crate's root: the text of an input from its first bytes.
 pub mod Promises

@@ -1,13 +1,6 @@
--- What reading the input leaves, and the text of an input from its first bytes. Nothing here is promised to a caller of the desk.
-use Rattle.std.specs.Prelude.{◌≡◌, List, ℕ, ◌≤◌, length, take}
-use Rattle.print_input.specs.declared.Input.{Input}
-use Rattle.print_input.specs.declared.Input.TheVariants.{Bytes, Failed}
+-- The text of an input from its first bytes. Nothing here is promised to a caller of the desk.
+use Rattle.std.specs.Prelude.{◌≡◌, List, ℕ, length, take}
 use Rattle.print_tables.specs.Printed.{PrintDone}
-
--- the bytes that were read stand in the slice
-abbrev pub Within : Input → List ℕ → Type 0
-Within (Bytes n) file = n ≤ length file
-Within (Failed error) file = Unit
 
 -- n bytes of the file are the first of an input, as many as the file has room for: its text is put together, however long the input is
 pub record InputPrinted (file : List ℕ) (n : ℕ) (out₀ : List ℕ) (r : ℕ) (out : List ℕ) : Type 0 where

@@ -1,10 +1,8 @@
 // METHOD 9: the printing program's input and output around the text of print_tables. What the system reads and writes is in no contract.
 #![tactic(auto)]
 
-ghost use Rattle.std.specs.Prelude.{◌≡◌, ◌+◌, ◌≤◌, length};
-ghost use Rattle.refusals.specs.Limits.{most_months};
-ghost use Rattle.desk_forms.specs.File.{file_length};
-ghost use Rattle.print_input.specs.Promises.{InputPrinted, Within};
+ghost use Rattle.std.specs.Prelude.{◌≤◌, length};
+ghost use Rattle.print_input.specs.Promises.{InputPrinted};
 
 use std::io;
 use std::io::{Eprint, Print, Read};
@@ -12,56 +10,44 @@ use std::io::{Eprint, Print, Read};
 // Bytes of the longest desk file.
 const LONGEST_FILE: usize = 4 + 6 * refusals::MOST_MONTHS;
 
-// How many bytes were read, or that a read failed, and why.
-#[derive(Clone, Copy)]
-enum Input {
-    Bytes(usize),
-    Failed(io::Error),
+// So many bytes of an input are read, one more than the longest desk file has: they decide (proofs/LongFiles.antt, read_enough).
+const MOST_READ: usize = LONGEST_FILE + 1;
+
+// The first bytes of an input, which are all of them where the array is not full.
+#[derive(Drop)]
+struct Input {
+    bytes: [u8; MOST_READ],
+    count: usize,
+    ghost inside: { count ≤ length bytes },
 }
 
-// One read: no bytes at the end of the input.
-fn read_some<F: Read>(from: &mut F, part: &mut [u8]) -> Input
-    ensures { Within result part.new }
-{
-    match from.read(part) {
-        Ok(n) => Input::Bytes(n),
-        Err(error) => Input::Failed(error),
-    }
-}
-
-// Reads until the slice is full or the input ends.
-fn read_input<F: Read>(from: &mut F, file: &mut [u8]) -> Input
-    ensures { Within result file.new }
-{
-    let mut n = 0;
-    while n < file.len() {
-        let more = match read_some(from, &mut file[n..]) {
-            Input::Bytes(more) => more,
-            Input::Failed(error) => return Input::Failed(error),
-        };
-        if more == 0 {
-            break;
+impl Input {
+    // Reads until the array is full or the input ends. No `for`: how far a step goes is the reader's answer.
+    fn read<F: Read>(from: &mut F) -> io::Result<Input> {
+        let mut bytes = [0; MOST_READ];
+        let mut count = 0;
+        while count < bytes.len() {
+            let more = from.read(&mut bytes[count..])?;
+            if more == 0 {
+                break;
+            }
+            count += more;
         }
-        n += more;
+        Ok(Input { bytes, count })
     }
-    Input::Bytes(n)
-}
 
-// The text of an input that may be longer, from its first bytes: n of them, which are all where the slice is not full. One byte more than
-// the longest desk file decides (proofs/LongFiles.antt, read_enough).
-fn put_input(out: &mut [u8; print_lines::TEXT_ROOM], file: &[u8], n: usize) -> usize
-    requires { (length file.now ≡ file_length most_months + 1) × (n ≤ length file.now) }
-    ensures { InputPrinted file.now n out.old result out.new }
-{
-    print_tables::put_file(out, &file[..n])
+    // The text of the whole input, however long that is.
+    fn put(&self, out: &mut [u8; print_lines::TEXT_ROOM]) -> usize
+        ensures { InputPrinted self.now.bytes self.now.count out.old result out.new }
+    {
+        print_tables::put_file(out, &self.bytes[..self.count])
+    }
 }
 
 // The system's words for an error, without its number.
 fn words(text: &str) -> &str {
-    match text.split_once(" (os error ") {
-        Some((words, _)) => words,
-        None => text,
-    }
+    text.split_once(" (os error ")
+        .map_or(text, |(words, _)| words)
 }
 
 // Tells on standard error what failed and why. Where that fails too, nothing is told.
@@ -80,15 +66,14 @@ pub fn run(rt: &HostRuntime) {
 // The same for any open file, and what it is called where reading fails. A failure is told on standard error, and no refusal is printed
 // for it.
 pub fn run_on<R: Print + Eprint + AllocGlobal, F: Read>(rt: &R, from: &mut F, name: &str) {
-    let mut file = [0u8; LONGEST_FILE + 1];
     let mut out = [0u8; print_lines::TEXT_ROOM];
-    match read_input(from, &mut file) {
-        Input::Bytes(n) => {
-            let end = put_input(&mut out, &file, n);
+    match Input::read(from) {
+        Ok(input) => {
+            let end = input.put(&mut out);
             if let Err(error) = rt.write_all(&out[..end]) {
                 fail(rt, "standard output", error);
             }
         }
-        Input::Failed(error) => fail(rt, name, error),
+        Err(error) => fail(rt, name, error),
     }
 }

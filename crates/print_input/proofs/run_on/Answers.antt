@@ -4,7 +4,7 @@ use Rattle.print_input.proofs.LongFiles.{printed-inside}
 use Rattle.print_input.proofs.run_on.Goals as goal
 
 pub slice_bounds-out-end : goal.slice_bounds-out-end
-slice_bounds-out-end g c = printed-inside c.in-Bytes.ensures c.put_input-end.ensures
+slice_bounds-out-end g c = printed-inside c.in-Ok.input.inside c.put-end.ensures
 
 pub slice_bounds-write_all-end : goal.slice_bounds-write_all-end
-slice_bounds-write_all-end g c = front_long _ _ (printed-inside c.in-Bytes.ensures c.put_input-end.ensures)
+slice_bounds-write_all-end g c = front_long _ _ (printed-inside c.in-Ok.input.inside c.put-end.ensures)
