@@ -86,7 +86,7 @@ impl Number for i64 {
     }
 }
 
-fn digit(d: u64) -> u8
+pub fn digit(d: u64) -> u8
     requires { d < 10 }
     ensures { result ≡ digit d }
 {
