@@ -46,43 +46,43 @@ impl<'a> Text<'a> {
 pub trait Number: Copy {
     ghost use Rattle.decimals.specs.Storing.{Put};
 
-    // Its text, and how many bytes that has at most.
-    ghost text: { Self → List ℕ };
+    // Its word, and how many bytes that has at most.
+    ghost word: { Self → List ℕ };
 
     ghost most: { ℕ };
 
-    fn put(self, out: &mut Text<'_>)
-        requires { out.old.at + length (text self) ≤ length out.old.out.now }
-        ensures { Put most out.old (text self) out.new };
+    fn put(self, text: &mut Text<'_>)
+        requires { text.old.at + length (word self) ≤ length text.old.out.now }
+        ensures { Put most text.old (word self) text.new };
 }
 
 // The decimal digits, at most 20: those of its tenth, then the last.
 impl Number for u64 {
-    ghost text = { digits };
+    ghost word = { digits };
 
     ghost most = { most_digits };
 
-    fn put(self, out: &mut Text<'_>) {
+    fn put(self, text: &mut Text<'_>) {
         if self < 10 {
-            return out.put_byte(digit(self));
+            return text.put_byte(digit(self));
         }
-        (self / 10).put(out);
-        out.put_byte(digit(self % 10));
+        (self / 10).put(text);
+        text.put_byte(digit(self % 10));
     }
 }
 
 // The digits of its size, a minus sign before them only where it is negative.
 impl Number for i64 {
-    ghost text = { signed_digits };
+    ghost word = { signed_digits };
 
     ghost most = { most_signed };
 
-    fn put(self, out: &mut Text<'_>) {
+    fn put(self, text: &mut Text<'_>) {
         let negative = self < 0;
         if negative {
-            out.put_byte(b'-');
+            text.put_byte(b'-');
         }
-        integers::size(self).put(out);
+        integers::size(self).put(text);
     }
 }
 

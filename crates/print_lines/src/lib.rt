@@ -123,8 +123,8 @@ impl Tables<'_> {
 
 // A space, then the number.
 fn put_spaced<N: Number>(text: &mut Text<'_>, n: N)
-    requires { text.old.at + (1 + length (N.text n)) ≤ length text.old.out.now }
-    ensures { Put (1 + N.most) text.old (spaced (N.text n)) text.new }
+    requires { text.old.at + (1 + length (N.word n)) ≤ length text.old.out.now }
+    ensures { Put (1 + N.most) text.old (spaced (N.word n)) text.new }
 {
     text.put_byte(b' ');
     n.put(text);

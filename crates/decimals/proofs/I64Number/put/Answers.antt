@@ -17,8 +17,8 @@ put_byte-requires c = omega (arith, ap length (below-zero refl (to_z-of_z c.rang
 pub put-requires : goal.put-requires
 put-requires c =
     elim c.if-negative.branch [
-      | then-negative w ↦ omega (arith, ap length (below-zero c.size.ensures (to_z-of_z c.ranges.self) w.if-negative.true), ap (λ (t : Text). t.at) w.out-is, ap (λ (t : Text). length t.out.now) w.out-is, w.put_byte.ensures.stored)
-      | else-negative w ↦ omega (arith, ap length (not-below-zero c.size.ensures (to_z-of_z c.ranges.self) w.if-negative.false), ap (λ (t : Text). t.at) w.out-is, ap (λ (t : Text). length t.out.now) w.out-is)
+      | then-negative w ↦ omega (arith, ap length (below-zero c.size.ensures (to_z-of_z c.ranges.self) w.if-negative.true), ap (λ (t : Text). t.at) w.text-is, ap (λ (t : Text). length t.out.now) w.text-is, w.put_byte.ensures.stored)
+      | else-negative w ↦ omega (arith, ap length (not-below-zero c.size.ensures (to_z-of_z c.ranges.self) w.if-negative.false), ap (λ (t : Text). t.at) w.text-is, ap (λ (t : Text). length t.out.now) w.text-is)
     ]
 
 pub returns : goal.returns
@@ -27,9 +27,9 @@ returns c =
       | then-negative w ↦
           put-eq
           (below-zero c.size.ensures (to_z-of_z c.ranges.self) w.if-negative.true)
-          (put-then w.put_byte.ensures (subst (λ (t : Text). Put most_digits t (digits c.size.result) c.put.new.out) w.out-is c.put.ensures))
+          (put-then w.put_byte.ensures (subst (λ (t : Text). Put most_digits t (digits c.size.result) c.put.new.text) w.text-is c.put.ensures))
       | else-negative w ↦
           put-eq
           (not-below-zero c.size.ensures (to_z-of_z c.ranges.self) w.if-negative.false)
-          (put-within (subst (λ (t : Text). Put most_digits t (digits c.size.result) c.put.new.out) w.out-is c.put.ensures) (omega arith))
+          (put-within (subst (λ (t : Text). Put most_digits t (digits c.size.result) c.put.new.text) w.text-is c.put.ensures) (omega arith))
     ]
