@@ -4,15 +4,12 @@ use mathlib.Core.Path.{◌≡◌, sym, ap, ◌∙◌}
 use mathlib.Core.List.{List}
 use native.Mathlib.Omega.{arith}
 use lib.ListN.{length}
-use lib.IntN.{ℤ}
 use Rattle.integers.specs.Filling.{Filled}
 use Rattle.integers.proofs.FillingLaws.{filled_on}
 use Rattle.extremes.specs.Years.{year_of, years, year_start, months, group_around, centre, group}
 use Rattle.extremes.specs.Spreads.{spread, limit_of, remaining, second_spread}
 use Rattle.extremes.specs.Weighing.{weight_by, month_weight}
-use Rattle.extremes.specs.Promises.{largest_size, Calendar, sizes_in, served_from, Range, Summed}
-use Rattle.extremes.proofs.ListLaws.{AllBelow}
-use Rattle.extremes.proofs.HeldSizes.{length-sizes, sizes-below}
+use Rattle.extremes.specs.Promises.{largest_size, AllBelow, Calendar, served_from}
 use Rattle.extremes.proofs.YearLaws.{centre-own, group-range, served_order, served_by}
 use Rattle.extremes.proofs.SpreadLaws.{months-below, spread-most, kept_most}
 use Rattle.extremes.proofs.GroupMonths.{group_at, group-some}
@@ -43,27 +40,25 @@ module _ (l : List ℕ) {start period n : ℕ} (e : length l ≡ n) (s : Calenda
         filled_on p (rw (u, v) at q) (omega arith) (served_order s m c).0 (λ k g h. ap (λ (r : ℕ). weight_by r l k) (f ∙ ap second_spread (served-group k g h)))
 
 -- ---- the group of year c and its spreads, as the code finds them
-pub record GroupFound (start period c : ℕ) (work : List ℤ) (lo hi : ℕ) : Type 0 where
-  pub range : Range lo hi work
+pub record GroupFound (start period c : ℕ) (l : List ℕ) (lo hi : ℕ) : Type 0 where
   pub order : lo < hi
-  pub inside : hi ≤ length (sizes_in work)
-  pub first_most : spread (months lo hi (sizes_in work)) ≤ largest_size
-  pub stays : 0 < length (remaining (months lo hi (sizes_in work)))
-  pub second : second_spread (months lo hi (sizes_in work)) ≡ second_spread (group start period (sizes_in work) c)
+  pub inside : hi ≤ length l
+  pub first_most : spread (months lo hi l) ≤ largest_size
+  pub stays : 0 < length (remaining (months lo hi l))
+  pub second : second_spread (months lo hi l) ≡ second_spread (group start period l c)
 
-pub group-found : {work running : List ℤ} {start period c lo hi : ℕ} → Summed start period work running → 2 ≤ c → c + 3 ≤ years start period (length work)
-    → lo ≡ year_start start period (length work) (c - 2) → hi ≡ year_start start period (length work) (c + 3) → GroupFound start period c work lo hi
-group-found {work} {running} {start} {period} {c} {lo} {hi} s i j u v = record {
-  range = record { order = omega (arith, ends); inside = ends.1; most = s.calendar.most; sizes = s.sizes };
+pub group-found : {l : List ℕ} {start period n c lo hi : ℕ} → length l ≡ n → Calendar start period n → AllBelow largest_size l → 2 ≤ c → c + 3 ≤ years start period n
+    → lo ≡ year_start start period n (c - 2) → hi ≡ year_start start period n (c + 3) → GroupFound start period c l lo hi
+group-found {l} {start} {period} {n} {c} {lo} {hi} e s small i j u v = record {
   order = ends.0;
-  inside = omega (arith, ends, length-sizes work);
-  first_most = spread-most largest_size _ (months-below lo hi (sizes-below s.sizes.small));
-  stays = rw same (smallest_stays _ (group-some (sizes_in work) start period (length-sizes work) s.calendar.early s.calendar.late s.calendar.least c)).some;
+  inside = omega (arith, ends, e);
+  first_most = spread-most largest_size _ (months-below lo hi small);
+  stays = rw same (smallest_stays _ (group-some l start period e s.early s.late s.least c)).some;
   second = ap second_spread same;
 }
   where
-    ends : (lo < hi) × (hi ≤ length work)
-    ends = omega (arith, group-range s.calendar.early s.calendar.late s.calendar.least c i j)
+    ends : (lo < hi) × (hi ≤ n)
+    ends = omega (arith, group-range s.early s.late s.least c i j)
 
-    same : months lo hi (sizes_in work) ≡ group start period (sizes_in work) c
-    same = let e = group_at (sizes_in work) start period (length-sizes work) c in let o = centre-own _ c i j in cc
+    same : months lo hi l ≡ group start period l c
+    same = let e = group_at l start period e c in let o = centre-own _ c i j in cc

@@ -7,6 +7,7 @@ use lib.ListN.{get_or, take, drop}
 use lib.Seq.{get_or-drop}
 use lib.IntN.{pos, nat_abs}
 use Rattle.integers.specs.Lists.{tab_from, tab}
+use Rattle.extremes.specs.Promises.{AllBelow}
 
 -- a list made place by place, each value put through f
 module _ {A : Type 0} {B : Type 0} (f : A → B) where
@@ -23,10 +24,7 @@ module _ {A : Type 0} {B : Type 0} (f : A → B) where
 pub read_back : (l : List ℕ) → map nat_abs (map pos l) ≡ l
 read_back l = map-map nat_abs pos l ∙ map-id l
 
--- no number of the list is above b
-pub record AllBelow (b : ℕ) (l : List ℕ) : Type 0 where
-  pub at : (t : ℕ) → get_or l t 0 ≤ b
-
+-- ---- no number of the list is above b
 module _ {b : ℕ} where
   pub below_tail : {a : ℕ} {l : List ℕ} → AllBelow b (a ∷ l) → AllBelow b l
   below_tail h = record { at = λ t. h.at (suc t) }

@@ -1,20 +1,16 @@
 -- Running sums of squares, and the first spread by two of them.
 use Prim.Native.Nat.{ℕ, zero, suc, ◌+◌, ◌*◌, ◌-◌, ◌/◌, ◌≤◌, ◌<◌}
 use mathlib.Core.Path.{◌≡◌, sym, ap, ap₂, ◌∙◌}
-use mathlib.Core.List.{List, map}
+use mathlib.Core.List.{List}
 use native.Mathlib.Nat.{add-zero, zero-add}
-use native.Mathlib.Numerals.{add-one}
 use native.Mathlib.Omega.{arith}
-use lib.ListN.{length, get_or, length-map}
-use lib.IntN.{ℤ, pos}
+use lib.ListN.{length, get_or}
 use Rattle.integers.specs.Root.{root}
 use Rattle.integers.proofs.FillingLaws.{length-tab, at-tab}
 use Rattle.refusals.specs.Limits.{most_months}
 use Rattle.extremes.specs.Years.{months}
 use Rattle.extremes.specs.Spreads.{squares, spread}
-use Rattle.extremes.specs.Promises.{largest_size, running_squares, sum_before, SumsRange}
-use Rattle.extremes.proofs.ListLaws.{AllBelow, read_back}
-use Rattle.extremes.proofs.HeldSizes.{held_whole}
+use Rattle.extremes.specs.Promises.{largest_size, running_squares, AllBelow}
 use Rattle.extremes.proofs.SpreadLaws.{months-none, months-next, months-below, length-months, squares-most}
 
 module _ (l : List ℕ) where
@@ -32,7 +28,7 @@ module _ (l : List ℕ) where
   squares-none = ap squares (months-none l 0)
 
   -- the months from lo to below hi are those before hi less those before lo
-  squares-before : (lo hi : ℕ) → lo ≤ hi → hi ≤ length l → squares (months lo hi l) + squares (months 0 lo l) ≡ squares (months 0 hi l)
+  pub squares-before : (lo hi : ℕ) → lo ≤ hi → hi ≤ length l → squares (months lo hi l) + squares (months 0 lo l) ≡ squares (months 0 hi l)
   squares-before lo hi h k = omega (arith, rw zero-add at (squares-on lo 0 hi (omega arith) k))
 
   -- one more month
@@ -43,27 +39,14 @@ module _ (l : List ℕ) where
   pub squares-small : AllBelow largest_size l → length l ≤ most_months → (t : ℕ) → t ≤ length l → squares (months 0 t l) ≤ most_months * (largest_size * largest_size)
   squares-small h k t i = omega (arith, squares-most largest_size (months 0 t l) (months-below 0 t h), length-months l 0 t i)
 
-  -- ---- what a slice of the running sums holds
-  module _ {running : List ℤ} (e : running ≡ map pos (running_squares l)) where
-    length-running : length running ≡ length l
-    unfolding running_squares
-    length-running = ap length e ∙ length-map (running_squares l) pos ∙ length-tab (length l) _
+  -- ---- what the running sums hold
+  pub length-running : length (running_squares l) ≡ length l
+  unfolding running_squares
+  length-running = length-tab (length l) _
 
-    sum_is : (t : ℕ) → t ≤ length l → sum_before t running ≡ squares (months 0 t l)
-    unfolding sum_before running_squares
-    sum_is zero h = sym squares-none
-    sum_is (suc t) h = rw (e, read_back (running_squares l)) (at-tab 0 (length l) (λ (u : ℕ). squares (months 0 (u + 1) l)) t h ∙ ap (λ (u : ℕ). squares (months 0 u l)) (add-one t))
-
-    pub sums_range : {lo hi : ℕ} → lo < hi → hi ≤ length l → SumsRange lo hi running
-    sums_range {lo} {hi} h k = record {
-      order = h;
-      inside = omega (arith, length-running);
-      whole = held_whole (running_squares l) e;
-      grow = omega (arith, sum_is lo (omega arith), sum_is hi k, squares-before lo hi (omega arith) k);
-    }
-
-    pub total_is : {lo hi r : ℕ} → lo < hi → hi ≤ length l → r ≡ sum_before hi running - sum_before lo running → r ≡ squares (months lo hi l)
-    total_is {lo} {hi} h k f = omega (arith, sum_is lo (omega arith), sum_is hi k, squares-before lo hi (omega arith) k)
+  pub sum_up_to : (t : ℕ) → t < length l → get_or (running_squares l) t 0 ≡ squares (months 0 (t + 1) l)
+  unfolding running_squares
+  sum_up_to t h = at-tab 0 (length l) (λ (u : ℕ). squares (months 0 (u + 1) l)) t h
 
   -- the first spread by such a sum
   pub first_is : (lo : ℕ) {hi r sum : ℕ} → hi ≤ length l → sum ≡ squares (months lo hi l) → r ≡ root (sum / (hi - lo)) → r ≡ spread (months lo hi l)

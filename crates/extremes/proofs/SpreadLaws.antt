@@ -15,8 +15,8 @@ use Rattle.integers.specs.Root.{root}
 use Rattle.integers.proofs.RootLaws.{root_is}
 use Rattle.extremes.specs.Years.{months}
 use Rattle.extremes.specs.Spreads.{squares, spread, keep}
-use Rattle.extremes.specs.Promises.{dropped, NextAbove}
-use Rattle.extremes.proofs.ListLaws.{AllBelow, below_tail, below_cons, below_slice}
+use Rattle.extremes.specs.Promises.{AllBelow, dropped, NextAbove}
+use Rattle.extremes.proofs.ListLaws.{below_tail, below_cons, below_slice}
 
 -- ---- the months from lo to below hi, from the first on
 module _ (l : List ℕ) where

@@ -27,46 +27,18 @@ pub record Calendar (start period n : ℕ) : Type 0 where
 unfoldable pub served_from : ℕ → ℕ → ℕ → ℕ → ℕ → ℕ
 served_from start period n last c = cond (leb c 2) 0 (cond (ltb last c) n (year_start start period n c))
 
--- ---- sizes and running sums in slices of signed numbers
+-- ---- sizes and running sums
 -- running sums: of each month, the sum of the squares of the sizes up to it, its own included
 unfoldable pub running_squares : List ℕ → List ℕ
 running_squares sizes = tab (length sizes) (λ t. squares (months 0 (t + 1) sizes))
 
--- the sizes that a slice holds, and the sum before month t that a slice of running sums holds
-unfoldable pub sizes_in : List ℤ → List ℕ
-sizes_in work = map nat_abs work
-
-unfoldable pub sum_before : ℕ → List ℤ → ℕ
-sum_before t running = get_or (0 ∷ map nat_abs running) t 0
+-- no number of the list is above b
+pub record AllBelow (b : ℕ) (l : List ℕ) : Type 0 where
+  pub at : (t : ℕ) → get_or l t 0 ≤ b
 
 -- no number of a slice is negative
 pub record Whole (work : List ℤ) : Type 0 where
   pub at : (t : ℕ) → work ‼ t ≡ pos (nat_abs (work ‼ t))
-
--- a slice holds sizes: none is negative nor too large
-pub record HoldsSizes (work : List ℤ) : Type 0 where
-  pub whole : Whole work
-  pub small : AllWithin largest_size work
-
--- a slice holds sizes, not too many, and the months from lo to below hi are among them
-pub record Range (lo hi : ℕ) (work : List ℤ) : Type 0 where
-  pub order : lo ≤ hi
-  pub inside : hi ≤ length work
-  pub most : length work ≤ most_months
-  pub sizes : HoldsSizes work
-
--- of the running sums that a slice holds, those before lo and before hi
-pub record SumsRange (lo hi : ℕ) (running : List ℤ) : Type 0 where
-  pub order : lo < hi
-  pub inside : hi ≤ length running
-  pub whole : Whole running
-  pub grow : sum_before lo running ≤ sum_before hi running
-
--- two slices hold sizes and their running sums, of months that can be weighed
-pub record Summed (start period : ℕ) (work running : List ℤ) : Type 0 where
-  pub calendar : Calendar start period (length work)
-  pub sizes : HoldsSizes work
-  pub sums : running ≡ map pos (running_squares (sizes_in work))
 
 -- ---- dropping
 -- the months that dropping takes away

@@ -3,37 +3,49 @@ ghost use Rattle.std.specs.Prelude.{◌≡◌, ◌≤◌};
 ghost use Rattle.extremes.specs.Years.{years, year_start};
 ghost use Rattle.extremes.specs.Promises.{Calendar, served_from};
 
-// How many calendar years n months from the start month touch.
-pub fn years(start: usize, period: usize, n: usize) -> usize
-    requires { Calendar start period n }
-    ensures { result ≡ years start period n }
-{
-    (start - 1 + (n - 1)) / period + 1
+// The calendar years of a series of so many months, from its start month on.
+#[derive(Clone, Copy)]
+pub struct Years {
+    pub start: usize,
+    pub period: usize,
+    pub months: usize,
+    ghost calendar: { Calendar start period months },
 }
 
-// The first of n months in year y, and n where that year comes after the end.
-pub fn year_start(start: usize, period: usize, n: usize, y: usize) -> usize
-    requires { Calendar start period n × (y ≤ years start period n) }
-    ensures { result ≡ year_start start period n y }
-{
-    if period * y < start {
-        return 0;
+impl Years {
+    // How many the months touch.
+    #[tactic(auto, unfolding(crate::specs::Years::years, crate::specs::Years::year_of))]
+    pub fn count(self) -> usize
+        ensures { result ≡ years self.start self.period self.months }
+    {
+        (self.start - 1 + (self.months - 1)) / self.period + 1
     }
-    let first = period * y - (start - 1);
-    if first < n { first } else { n }
-}
 
-// The first of n months that the group of year c serves, and n where c is past the last group.
-// Year 2's group serves the years before it too, the last group the years after it.
-pub fn served_from(start: usize, period: usize, n: usize, last: usize, c: usize) -> usize
-    requires { Calendar start period n × (c ≤ years start period n) }
-    ensures { result ≡ served_from start period n last c }
-{
-    if c <= 2 {
-        return 0;
+    // The first month in year y, and the number of months where that year comes after the end.
+    #[tactic(auto, using(crate::proofs::YearLaws::starts_few), unfolding(crate::specs::Years::year_start))]
+    pub fn first_month(self, y: usize) -> usize
+        requires { y ≤ years self.start self.period self.months }
+        ensures { result ≡ year_start self.start self.period self.months y }
+    {
+        if self.period * y < self.start {
+            return 0;
+        }
+        self.months.min(self.period * y - (self.start - 1))
     }
-    if last < c {
-        return n;
+
+    // The first month that the group of year c serves, and the number of months where c is past the last group.
+    // Year 2's group serves the years before it too, the last group the years after it.
+    #[tactic(auto, using(std::proofs::lemmas::Bool::Decides::nat_tests), unfolding(crate::specs::Promises::served_from))]
+    pub fn served_from(self, last: usize, c: usize) -> usize
+        requires { c ≤ years self.start self.period self.months }
+        ensures { result ≡ served_from self.start self.period self.months last c }
+    {
+        if c <= 2 {
+            0
+        } else if last < c {
+            self.months
+        } else {
+            self.first_month(c)
+        }
     }
-    year_start(start, period, n, c)
 }

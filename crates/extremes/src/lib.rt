@@ -13,15 +13,16 @@ mod sizes; // sizes in whole units, and running sums of their squares
 mod spreads; // both spreads of a group
 mod weighing; // a month's weight, and those of all groups
 
-use sizes::{fill_sizes, fill_sums};
-use weighing::weigh_groups;
+use calendar::Years;
+use sizes::{Held, fill_sizes, fill_sums};
+use spreads::Months;
 
 // METHOD 3.8: the calendar month of month t, where a year has so many months.
 pub fn month_of(start: u8, period: u8, t: usize) -> u8
     requires { (1 ≤ start) × (start ≤ period) × (t ≤ most_months) }
     ensures { (result ≡ month_of start period t) × (1 ≤ result) × (result ≤ period) }
 {
-    ((start as usize - 1 + t) % (period as usize) + 1) as u8
+    ((usize::from(start) - 1 + t) % usize::from(period) + 1) as u8
 }
 
 // The weights of an irregular whose years have so many months, with two slices to work in.
@@ -37,8 +38,16 @@ pub fn weights(
     ensures { Outcome start period irregular.now sizes.new sums.new out.new }
 {
     fill_sizes(irregular, sizes);
-    fill_sums(sizes, sums);
-    weigh_groups(sizes, sums, start as usize, period as usize, out);
+    let sizes = Held { signed: sizes };
+    fill_sums(&sizes, sums);
+    let sums = Held { signed: sums };
+    let years = Years {
+        start: usize::from(start),
+        period: usize::from(period),
+        months: irregular.len(),
+    };
+    let months = Months { years, sizes, sums };
+    months.weigh(out);
 }
 
 // METHOD 5.7: the correction of a month, by its irregular and its weight.
@@ -47,7 +56,7 @@ pub fn correction(irregular: i64, weight: u16) -> i64
     ensures { result ≡ correction_of irregular weight }
 {
     integers::to_grain(
-        irregular * ((refusals::FULL_WEIGHT - weight) as i64),
-        refusals::FULL_WEIGHT as i64,
+        irregular * i64::from(refusals::FULL_WEIGHT - weight),
+        i64::from(refusals::FULL_WEIGHT),
     )
 }

@@ -1,10 +1,12 @@
 // METHOD 5.3: the sizes of an irregular in whole units, and the running sums of their squares. Slices of signed numbers hold both.
-ghost use Rattle.std.specs.Prelude.{◌≡◌, map, ◌-◌, ◌≤◌, ◌<◌, length, get_or, pos};
+ghost use Rattle.std.specs.Prelude.{◌≡◌, map, ◌≤◌, ◌<◌, length, get_or, List, ℕ, pos, nat_abs};
 ghost use Rattle.integers.specs.Sizes.{◌within◌};
 ghost use Rattle.integers.specs.Lists.{AllWithin};
 ghost use Rattle.refusals.specs.Limits.{most_months};
 ghost use Rattle.extremes.specs.Spreads.{size_of, sizes_of};
-ghost use Rattle.extremes.specs.Promises.{largest_irregular, largest_size, sizes_in, running_squares, sum_before, Whole, HoldsSizes, SumsRange};
+ghost use Rattle.extremes.specs.Promises.{largest_irregular, largest_size, running_squares, Whole, AllBelow};
+
+use std::marker::Model;
 
 // The size of a month's irregular.
 fn size_of(irregular: i64) -> i64
@@ -24,42 +26,47 @@ pub fn fill_sizes(irregular: &[i64], sizes: &mut [i64])
     }
 }
 
-// The size of month t.
-pub fn size_at(sizes: &[i64], t: usize) -> u64
-    requires { (t < length sizes.now) × HoldsSizes sizes.now }
-    ensures { (result ≡ get_or (sizes_in sizes.now) t 0) × (result ≤ largest_size) }
-{
-    sizes[t] as u64
+// Natural numbers of months, as a slice of signed ones holds them: none is negative.
+#[derive(Drop)]
+pub struct Held<'a> {
+    pub signed: &'a [i64],
+}
+
+impl<'a> Model for Held<'a> {
+    ghost Value = { List ℕ };
+
+    ghost view = { λ h. map nat_abs h.signed.now };
+
+    ghost invariant = { λ h. Whole h.signed.now × (length h.signed.now ≤ most_months) };
+}
+
+impl<'a> Held<'a> {
+    // How many there are.
+    pub fn len(&self) -> usize
+        ensures { result ≡ length self.now }
+    {
+        self.signed.len()
+    }
+
+    // The one at place t.
+    pub fn at(&self, t: usize) -> u64
+        requires { t < length self.now }
+        ensures { result ≡ get_or self.now t 0 }
+    {
+        let signed = self.signed;
+        signed[t] as u64
+    }
 }
 
 // The sums of the squares of the sizes up to each month, that month included.
-pub fn fill_sums(sizes: &[i64], sums: &mut [i64])
-    requires { HoldsSizes sizes.now × (length sizes.now ≤ most_months) × (length sums.old ≡ length sizes.now) }
-    ensures { sums.new ≡ map pos (running_squares (sizes_in sizes.now)) }
+pub fn fill_sums(sizes: &Held, sums: &mut [i64])
+    requires { AllBelow largest_size sizes.now × (length sizes.now ≤ most_months) × (length sums.old ≡ length sizes.now) }
+    ensures { sums.new ≡ map pos (running_squares sizes.now) }
 {
     let mut sum: u64 = 0;
     for t in 0..sizes.len() {
-        let a = size_at(sizes, t);
+        let a = sizes.at(t);
         sum += a * a;
         sums[t] = sum as i64;
     }
-}
-
-// The sum of the squares of the sizes before month t.
-fn sum_before(sums: &[i64], t: usize) -> u64
-    requires { (t ≤ length sums.now) × Whole sums.now }
-    ensures { result ≡ sum_before t sums.now }
-{
-    if t == 0 {
-        return 0;
-    }
-    sums[t - 1] as u64
-}
-
-// The sum of the squares of the sizes from lo to below hi, by two of the sums.
-pub fn sum_of(sums: &[i64], lo: usize, hi: usize) -> u64
-    requires { SumsRange lo hi sums.now }
-    ensures { result ≡ sum_before hi sums.now - sum_before lo sums.now }
-{
-    sum_before(sums, hi) - sum_before(sums, lo)
 }

@@ -24,9 +24,6 @@ After-half_up = lts.After-half_up tie.the-claims reads.Pre reads.Post
 abs_is : (c : After-size) → c.size.result ≡ nat_abs c.args.irregular
 abs_is c = c.size.ensures ∙ ap nat_abs (i_arg c.ranges.irregular c.requires).eq
 
-pub half_up-requires : goal.half_up-requires
-half_up-requires c = (omega arith, omega (arith, abs_is c, c.requires), omega arith)
-
 by_size : (z : ℤ) → half_up (nat_abs z) 1000 ≡ size_of z
 unfolding size_of away_from_zero
 by_size (pos n) = refl
