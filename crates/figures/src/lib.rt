@@ -1,7 +1,7 @@
 // METHOD 4: what is worked from the figures month by month. B1 is never stored but as X: it is the figures times 1,000 wherever it is wanted.
 #![tactic(auto)]
 
-ghost use Rattle.std.specs.Prelude.{◌≡◌, ◌<◌, length, get_or, pos, ◌-ℤ◌, ◌*ℤ◌};
+ghost use Rattle.std.specs.Prelude.{◌≡◌, ◌<◌, length, get_or, ℕ, pos, ◌-ℤ◌, ◌*ℤ◌};
 ghost use Rattle.integers.specs.Lists.{◌‼◌};
 ghost use Rattle.refusals.specs.Limits.{unit};
 ghost use Rattle.series.specs.Operations.{minus, times};
@@ -15,7 +15,17 @@ fn grains_at(figures: &[i32], t: usize) -> i64
     requires { Figures figures.now × (t < length figures.now) }
     ensures { result ≡ pos unit *ℤ (figures.now ‼ t) }
 {
-    refusals::UNIT * (figures[t] as i64)
+    refusals::UNIT * i64::from(figures[t])
+}
+
+// Each month's number, in out.
+fn fill<F: Fn(usize) -> i64>(out: &mut [i64], number: F)
+    requires { (t : ℕ) → t < length out.old → F.pre number t }
+    ensures { (length out.new ≡ length out.old) × ((t : ℕ) → t < length out.old → F.post number t (out.new ‼ t)) }
+{
+    for t in 0..out.len() {
+        out[t] = number(t);
+    }
 }
 
 // B1: the figures in grains.
@@ -23,9 +33,7 @@ pub fn in_grains(figures: &[i32], out: &mut [i64])
     requires { Figures figures.now × (length out.old ≡ length figures.now) }
     ensures { out.new ≡ times unit figures.now }
 {
-    for t in 0..figures.len() {
-        out[t] = grains_at(figures, t);
-    }
+    fill(out, |t| grains_at(figures, t));
 }
 
 // B1 of month t less a seasonal.
@@ -41,9 +49,7 @@ pub fn adjusted(figures: &[i32], s: &[i64], out: &mut [i64])
     requires { WithSeasonal figures.now s.now × (length out.old ≡ length figures.now) }
     ensures { out.new ≡ minus (times unit figures.now) s.now }
 {
-    for t in 0..figures.len() {
-        out[t] = adjusted_at(figures, s, t);
-    }
+    fill(out, |t| adjusted_at(figures, s, t));
 }
 
 // B1 of month t less its correction.
@@ -61,7 +67,5 @@ pub fn corrected(figures: &[i32], irregular: &[i64], weights: &[u16], out: &mut 
     ensures { out.new ≡ minus (times unit figures.now)
         (corrections irregular.now weights.now) }
 {
-    for t in 0..figures.len() {
-        out[t] = corrected_at(figures, irregular, weights, t);
-    }
+    fill(out, |t| corrected_at(figures, irregular, weights, t));
 }

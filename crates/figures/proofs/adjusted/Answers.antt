@@ -1,22 +1,14 @@
+use Rattle.std.proofs.Common.{rules}
 use mathlib.Core.Path.{◌∙◌}
 use native.Mathlib.Omega.{arith}
-use Rattle.integers.proofs.Signed64.{kept}
+use lib.ListN.{length}
+use lib.IntN.{pos, ◌*ℤ◌, ◌-ℤ◌}
+use Rattle.integers.specs.Lists.{◌‼◌}
+use Rattle.integers.proofs.FillingLaws.{tab-same}
 use Rattle.refusals.specs.Limits.{unit}
-use Rattle.integers.proofs.FillingLaws.{filled_none, filled_more, filled-tab}
 use Rattle.figures.proofs.Loops.{less_is}
 use Rattle.figures.proofs.adjusted.Goals as goal
 
-pub loop-t-init : goal.loop-t-init
-loop-t-init c = (omega arith, omega arith, filled_none)
-
-pub adjusted_at-requires : goal.adjusted_at-requires
-adjusted_at-requires c = (c.requires.0, omega arith)
-
-pub loop-t-preserved : goal.loop-t-preserved
-loop-t-preserved c = (omega arith, c.loop-t.invariant.1, filled_more c.loop-t.invariant.2 (omega arith) (omega arith) (kept c.adjusted_at.type_inv c.adjusted_at.ensures))
-
-pub shape_of-out : goal.shape_of-out
-shape_of-out c = c.loop-t.invariant.2.long
-
 pub returns : goal.returns
-returns c = filled-tab c.loop-t.invariant.2 (omega arith) c.requires.1 ∙ less_is unit c.args.figures.now c.args.s.now
+returns c = let f = c.args.figures.now in let s = c.args.s.now in
+    tab-same (pos 0) (length f) (λ t. pos unit *ℤ (f ‼ t) -ℤ (s ‼ t)) c.fill.new.out (omega (arith, c.fill.ensures.0)) (λ t h. let p = c.fill.ensures.1 t (omega arith) in search rules) ∙ less_is unit f s

@@ -1,22 +1,16 @@
+use Rattle.std.proofs.Common.{rules}
 use mathlib.Core.Path.{◌∙◌}
 use native.Mathlib.Omega.{arith}
-use Rattle.integers.proofs.Signed64.{kept}
+use lib.ListN.{length, get_or}
+use lib.IntN.{pos, ◌*ℤ◌, ◌-ℤ◌}
+use Rattle.integers.specs.Lists.{◌‼◌}
+use Rattle.integers.proofs.FillingLaws.{tab-same}
 use Rattle.refusals.specs.Limits.{unit}
-use Rattle.integers.proofs.FillingLaws.{filled_none, filled_more, filled-tab}
+use Rattle.extremes.specs.Weighing.{correction_of}
 use Rattle.figures.proofs.Loops.{corrected_is}
 use Rattle.figures.proofs.corrected.Goals as goal
 
-pub loop-t-init : goal.loop-t-init
-loop-t-init c = (omega arith, omega arith, filled_none)
-
-pub corrected_at-requires : goal.corrected_at-requires
-corrected_at-requires c = (c.requires.0, omega arith)
-
-pub loop-t-preserved : goal.loop-t-preserved
-loop-t-preserved c = (omega arith, c.loop-t.invariant.1, filled_more c.loop-t.invariant.2 (omega arith) (omega arith) (kept c.corrected_at.type_inv c.corrected_at.ensures))
-
-pub shape_of-out : goal.shape_of-out
-shape_of-out c = c.loop-t.invariant.2.long
-
 pub returns : goal.returns
-returns c = filled-tab c.loop-t.invariant.2 (omega arith) c.requires.1 ∙ corrected_is unit c.args.figures.now c.args.irregular.now c.args.weights.now c.requires.0.irregular_long
+returns c = let f = c.args.figures.now in let z = c.args.irregular.now in let w = c.args.weights.now in
+    tab-same (pos 0) (length f) (λ t. pos unit *ℤ (f ‼ t) -ℤ correction_of (z ‼ t) (get_or w t 0)) c.fill.new.out (omega (arith, c.fill.ensures.0)) (λ t h. let p = c.fill.ensures.1 t (omega arith) in search rules)
+    ∙ corrected_is unit f z w c.requires.0.irregular_long
