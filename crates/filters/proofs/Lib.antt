@@ -9,4 +9,3 @@ pub mod ByMonth
 pub mod Window
 pub mod Stretches
 pub mod Stored
-pub mod ShortRuns

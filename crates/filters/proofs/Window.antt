@@ -84,9 +84,9 @@ module _ (F : Table) (x : List ℤ) (t b a : ℕ) (ok : Readable F) (v : Served 
     sum-within = rw (e ∙ sum_is) (w≤ (wsum-within (b + 1 + a) (row_weight F (row_for F b a)) (λ k. x ‼ (t - b * F.step + k * F.step)) largest (λ k l. let m = meets k l in v.small _ m.0 m.1))
         (quotient_fits _ (denominator F (row_for F b a)) (ok.light b a v.few_before v.few_after)))
 
-    pub value_is : {z : ℤ} (d : ℕ) → d ≡ denominator F (row_for F b a) → z ≡ to_grain sum d → z ≡ by_row F b a x t
+    pub value_is : {z : ℤ} → z ≡ to_grain sum (denominator F (row_for F b a)) → z ≡ by_row F b a x t
     unfolding by_row
-    value_is d f g = rw (← sum_is, ← e, ← f) g
+    value_is g = rw (← sum_is, ← e) g
 
 -- the denominator of a row
 pub in_middle : (F : Table) (r : ℕ) → r ≡ F.side * F.row_step → F.middle ≡ denominator F r

@@ -18,10 +18,6 @@ largest = 1_700_000_000_000
 abbrev pub table_of : StoredTable → Table
 table_of f = record { side = f.side; row_step = f.row_step; step = f.step; width = f.width; rows = f.rows.now; middle = f.middle; ends = f.ends }
 
--- a table with its middle row over the denominator of the others
-abbrev pub over_ends : Table → Table
-over_ends F = record { side = F.side; row_step = F.row_step; step = F.step; width = F.width; rows = F.rows; middle = F.ends; ends = F.ends }
-
 -- weights, and the values that they meet
 pub record Dots (w x : List ℤ) (from step : ℕ) : Type 0 where
   pub light : norm (length w) (λ k. w ‼ k) * 1000 ≤ largest_norm * largest_over

@@ -19,7 +19,7 @@ use rows::henderson_9::HENDERSON_9;
 use rows::henderson_13::HENDERSON_13;
 use rows::henderson_23::HENDERSON_23;
 use rows::mean_rows::{THREE_BY_FIVE, THREE_BY_THREE, TWO_BY_TWELVE};
-use rows::three_by_nine::{SHORT_THREE_BY_NINE, THREE_BY_NINE};
+use rows::three_by_nine::THREE_BY_NINE;
 use rows::{SeasonalFilter, StoredTable, Terms};
 
 // The sum of weights[k] * x[from + k * step] over the weights.
@@ -34,26 +34,22 @@ fn dot(weights: &[i64], x: &[i64], from: usize, step: usize) -> i64
     sum
 }
 
-// A weighted sum over its row's denominator, rounded once.
-fn rounded(sum: i64, d: usize) -> i64
-    requires { (sum within largest_quotient * d) × (1 ≤ d) × (d ≤ largest_over) }
-    ensures { result ≡ to_grain sum d }
-{
-    integers::to_grain(sum, d as i64)
-}
-
-// The denominator of a row: the middle one has its own.
-fn denominator(f: StoredTable, row: usize) -> usize
-    ensures { result ≡ denominator (table_of f) row }
+// A weighted sum over its row's denominator, rounded once: the middle row has its own. (What takes a table goes into its callers, down to the constant, so
+// that the compiler knows the numbers: docs/DECISIONS.md, 24.)
+#[inline(always)]
+fn rounded(f: StoredTable, row: usize, sum: i64) -> i64
+    requires { sum within largest_quotient * denominator (table_of f) row }
+    ensures { result ≡ to_grain sum (denominator (table_of f) row) }
 {
     if row == f.side * f.row_step {
-        f.middle
+        integers::to_grain(sum, f.middle as i64)
     } else {
-        f.ends
+        integers::to_grain(sum, f.ends as i64)
     }
 }
 
 // The filter's value at place t by the row for so many values before and after it.
+#[inline(always)]
 fn by_row(f: StoredTable, x: &[i64], earlier: usize, later: usize, t: usize) -> i64
     requires { Served (table_of f) earlier later t x.now × (length x.now ≤ most_months) }
     ensures { result ≡ by_row (table_of f) earlier later x.now t }
@@ -62,10 +58,11 @@ fn by_row(f: StoredTable, x: &[i64], earlier: usize, later: usize, t: usize) -> 
     let at = row * f.width;
     let weights = &f.rows[at..at + earlier + 1 + later];
     let sum = dot(weights, x, t - earlier * f.step, f.step);
-    rounded(sum, denominator(f, row))
+    rounded(f, row, sum)
 }
 
 // The filter at the places from lo to below hi, which one row serves: no place asks for its row.
+#[inline(always)]
 fn fill_row(
     f: StoredTable,
     x: &[i64],
@@ -172,7 +169,7 @@ fn three_by_nine(first: usize, past: usize, x: &[i64], out: &mut [i64])
     ensures { FilteredMonths (table_seasonal ThreeByNine) first past x.now out.old out.new }
 {
     if past - first < 120 {
-        fill_short(SHORT_THREE_BY_NINE, first, past, x, out);
+        fill_short(THREE_BY_NINE, first, past, x, out);
     } else {
         fill_months(THREE_BY_NINE, first, past, x, out);
     }
@@ -190,7 +187,8 @@ pub fn seasonal(chosen: SeasonalFilter, first: usize, past: usize, x: &[i64], ou
     }
 }
 
-// METHOD 2.5 and 2.6: Henderson's filter of so many terms, with Musgrave's ends.
+// METHOD 2.5 and 2.6: Henderson's filter of so many terms, with Musgrave's ends. (A table that is chosen first and passed on has numbers that the compiler
+// doesn't know: tried, 2.3 times the instructions.)
 pub fn henderson(terms: Terms, x: &[i64], out: &mut [i64])
     requires { Filterable x.now × (22 ≤ length x.now) × (length out.old ≡ length x.now) }
     ensures { out.new ≡ filter (table_henderson terms) x.now }

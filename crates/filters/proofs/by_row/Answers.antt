@@ -1,6 +1,5 @@
 -- `filters::by_row` meets its contract: the row and the window lie within the slices, and the sum is that of the rules.
-use native.Mathlib.Omega.{arith}
-use Rattle.integers.proofs.Signed64.{i_call, i_within, kept}
+use Rattle.integers.proofs.Signed64.{kept}
 use Rattle.rows.specs.Table.{row_for}
 use Rattle.filters.specs.Promises.{table_of}
 use Rattle.filters.proofs.Window as window
@@ -12,11 +11,9 @@ dot-sum-requires c = let a = c.args in window.dots (table_of a.f) a.x.now a.t a.
 
 pub rounded-requires : goal.rounded-requires
 unfolding row_for
-rounded-requires c = let a = c.args in let F = table_of a.f in let over = c.denominator.ensures in
-    let l = window.denominator-limits F a.f.readable (row_for F a.earlier a.later) in
-    (rw over (window.sum-within F a.x.now a.t a.earlier a.later a.f.readable c.requires.0 (kept c.dot-sum.type_inv c.dot-sum.ensures)), omega (arith, l, over), omega (arith, l, over))
+rounded-requires c = let a = c.args in window.sum-within (table_of a.f) a.x.now a.t a.earlier a.later a.f.readable c.requires.0 (kept c.dot-sum.type_inv c.dot-sum.ensures)
 
 pub returns : goal.returns
 unfolding row_for
 returns c = let a = c.args in
-    window.value_is (table_of a.f) a.x.now a.t a.earlier a.later a.f.readable c.requires.0 (kept c.dot-sum.type_inv c.dot-sum.ensures) c.denominator.result c.denominator.ensures (kept c.rounded.type_inv c.rounded.ensures)
+    window.value_is (table_of a.f) a.x.now a.t a.earlier a.later a.f.readable c.requires.0 (kept c.dot-sum.type_inv c.dot-sum.ensures) (kept c.rounded.type_inv c.rounded.ensures)

@@ -2,9 +2,7 @@
 use Rattle.integers.specs.Sums.{sum_n}
 use Rattle.rows.specs.Table.{middle_row, row_count, row_weight, denominator}
 use Rattle.rows.specs.FilterTables.{table_seasonal, over_seasonal}
-use Rattle.integers.proofs.FillingLaws.{filled_as}
 use Rattle.filters.proofs.Stored.{readable_rows}
-use Rattle.filters.proofs.ShortRuns.{short_value}
 use Rattle.filters.proofs.three_by_nine.Goals as goal
 
 pub invariant_of-fill_short : goal.invariant_of-fill_short
@@ -17,8 +15,7 @@ invariant_of-fill_months c = record { readable = readable_rows _ over_seasonal (
 
 pub returns-then-past-first-lt120 : goal.returns-then-past-first-lt120
 unfolding table_seasonal
-returns-then-past-first-lt120 c = let a = c.args in
-    filled_as c.fill_short.ensures (λ t l m. short_value a.first a.past a.x.now t c.if-past-first-lt120.true l m)
+returns-then-past-first-lt120 c = c.fill_short.ensures
 
 pub returns-else-past-first-lt120 : goal.returns-else-past-first-lt120
 unfolding table_seasonal
