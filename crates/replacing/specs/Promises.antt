@@ -1,38 +1,39 @@
 -- What the code asks of its arguments, and what it hands on. Nothing here is promised to a caller of the desk.
-use Rattle.std.specs.Prelude.{◌≡◌, cond, List, [], ◌∷◌, ℕ, ◌-◌, ◌≤◌, ◌<◌, ltb, leb, length, ℤ}
+use Rattle.std.specs.Prelude.{◌≡◌, Bool, cond, List, [], ◌∷◌, ℕ, ◌-◌, ◌<◌, leb, eqb, length, get_or, ℤ, Option, Some, None, IfSome}
 use Rattle.filters.specs.Promises.{Filterable}
+use Rattle.refusals.specs.Limits.{full_weight}
 use Rattle.replacing.specs.Neighbours.{full_before, full_after}
 use Rattle.replacing.specs.Replaced.{sum_at}
 
--- the values and the weights of a table, and a place of it
-pub record PlaceWeighed (x : List ℤ) (w : List ℕ) (t : ℕ) : Type 0 where
+-- the values of a table, and as many weights
+pub record TableWeighed (x : List ℤ) (w : List ℕ) : Type 0 where
   pub filterable : Filterable x
   pub long : length w ≡ length x
-  pub place : t < length x
 
--- a list of places that begins with r; empty if r is n, which is no place of a table of n
-unfoldable pub list_from : ℕ → ℕ → List ℕ → List ℕ
-list_from n r l = cond (ltb r n) (r ∷ l) []
+-- whether a place has weight 1,000
+abbrev pub is_full : List ℕ → ℕ → Bool
+is_full w p = eqb (get_or w p 0) full_weight
 
--- r is the first place in the list of p, and what follows it there is the list of r; r is n if the list of p is empty or p itself is n
-pub record Next (n : ℕ) (list : ℕ → List ℕ) (p r : ℕ) : Type 0 where
-  pub from_place : p < n → list p ≡ list_from n r (list r)
-  pub from_none : n ≤ p → r ≡ n
-  pub most : r ≤ n
+-- a place, if there is one, and the list that goes on from it
+abbrev pub list_from : (ℕ → List ℕ) → Option ℕ → List ℕ
+list_from list None = []
+list_from list (Some p) = p ∷ list p
 
 -- r is the nearest place of weight 1,000 before p in its run ..
-pub record Back (period : ℕ) (w : List ℕ) (p r : ℕ) : Type 0 where
-  pub next : Next (length w) (full_before period w) p r
-  pub side : r < length w → r < p
+pub record Back (period : ℕ) (w : List ℕ) (p : ℕ) (r : Option ℕ) : Type 0 where
+  pub same : full_before period w p ≡ list_from (full_before period w) r
+  pub side : IfSome r (λ q. q < p)
 
 -- .. and after p
-pub record Ahead (period : ℕ) (w : List ℕ) (p r : ℕ) : Type 0 where
-  pub next : Next (length w) (full_after period w) p r
-  pub side : r < length w → p < r
+pub record Ahead (period : ℕ) (w : List ℕ) (p : ℕ) (r : Option ℕ) : Type 0 where
+  pub same : full_after period w p ≡ list_from (full_after period w) r
+  pub side : IfSome r (λ q. (p < q) × (q < length w))
 
--- of an earlier place a and a later place b the nearer to t, and the earlier if they are equally near; the other if one is n
-unfoldable pub nearer : ℕ → ℕ → ℕ → ℕ → ℕ
-nearer n t a b = cond (ltb a n) (cond (ltb b n) (cond (leb (t - a) (b - t)) a b) a) b
+-- of an earlier place a and a later place b the nearer to t, and the earlier if they are equally near; the other if there is but one
+abbrev pub nearer : ℕ → Option ℕ → Option ℕ → Option ℕ
+nearer t None b = b
+nearer t (Some a) None = Some a
+nearer t (Some a) (Some b) = Some (cond (leb (t - a) (b - t)) a b)
 
 -- the sum and the number of the values at some places
 pub record SumAndCountOf (x : List ℤ) (ps : List ℕ) (sum : ℤ) (count : ℕ) : Type 0 where

@@ -7,9 +7,6 @@ use Rattle.replacing.proofs.replace.Goals as goal
 pub loop-t-init : goal.loop-t-init
 loop-t-init c = (omega arith, omega arith, filled_none)
 
-pub replaced_at-requires : goal.replaced_at-requires
-replaced_at-requires c = record { filterable = c.requires.0; long = c.requires.1; place = omega arith }
-
 pub loop-t-preserved : goal.loop-t-preserved
 loop-t-preserved c = (omega arith, c.loop-t.invariant.1, filled_more c.loop-t.invariant.2 (omega arith) (omega arith) (kept c.replaced_at.type_inv c.replaced_at.ensures))
 
