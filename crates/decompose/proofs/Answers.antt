@@ -11,15 +11,16 @@ use Rattle.checks.specs.Answer.{answer_for}
 use Rattle.checks.specs.Promises.{Accepts}
 use Rattle.decompose.specs.Promise.{Slices, lengths_of, answer, after, Promise, RefusalTouchesNothing}
 use Rattle.three_passes.specs.Promises.{PassesDone}
-use Rattle.decompose.specs.declared.Decomposed.TheVariants.{Tables, Refused}
+use Rattle.std.specs.Prelude.{Result, Ok, Err}
 
 -- ---- a refusal
-pub refused : {start : ℕ} {f : List ℤ} {lent : Slices} (q : Refusal) → answer_for start f (lengths_of lent) ≡ refusal_of q → Promise start f lent (Refused q) lent
+pub refused : {start : ℕ} {f : List ℤ} {lent : Slices} {r : Result Unit Refusal} (q : Refusal) → r ≡ Err q → answer_for start f (lengths_of lent) ≡ refusal_of q
+    → Promise start f lent r lent
 unfolding answer after
-refused {start} {f} {lent} q h = record {
-  answered = sym h;
+refused {start} {f} {lent} {r} q e h = record {
+  answered = rw (e, h);
   slices = rw h;
-  near = λ e. absurd (no-success e);
+  near = λ s. absurd (no-success (rw e at s));
   passes = passes_near start f;
 }
 
@@ -40,7 +41,7 @@ same : (s t : Slices) → s.d10 ≡ t.d10 → s.d11 ≡ t.d11 → s.d12 ≡ t.d1
 same s t a b c d e f g = sym (made_is s) ∙ rw (a, b, c, d, e, f, g) (made_is t)
 
 pub tables : {start : ℕ} {f : List ℤ} {lent left : Slices} → Accepts start f (lengths_of lent)
-    → PassesDone start f left.d10 left.d11 left.d12 left.d13 left.b17 left.c17 lent.scratch left.scratch → Promise start f lent Tables left
+    → PassesDone start f left.d10 left.d11 left.d12 left.d13 left.b17 left.c17 lent.scratch left.scratch → Promise start f lent (Ok tt) left
 unfolding answer after
 tables {start} {f} {lent} {left} h k = record {
   answered = sym h.answer_is;

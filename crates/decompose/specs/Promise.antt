@@ -1,5 +1,5 @@
 -- METHOD 8 and 10: what decomposing answers, and what it leaves in the lent slices, for all inputs.
-use Rattle.std.specs.Prelude.{◌≡◌, List, ℕ, ◌<◌, length, ℤ}
+use Rattle.std.specs.Prelude.{◌≡◌, List, ℕ, ◌<◌, length, ℤ, Result, Ok, Err}
 use Rattle.refusals.specs.declared.Refusal.{Refusal}
 use Rattle.refusals.specs.Sheet.{Answer, success, refusal, refusal_of}
 use Rattle.tables.specs.Tables.{B1, B17, C17, D1, final_seasonal_filter, D10, D11, final_terms, D12, D13}
@@ -7,8 +7,6 @@ use Rattle.tables.specs.Nearness.{PassesNear, NearAt}
 use Rattle.checks.specs.declared.Lengths.{Lengths}
 use Rattle.scratch.specs.Scratch.{zeroed}
 use Rattle.checks.specs.Answer.{answer_for}
-use Rattle.decompose.specs.declared.Decomposed.{Decomposed}
-use Rattle.decompose.specs.declared.Decomposed.TheVariants.{Tables, Refused}
 
 -- METHOD 8.3: the lent slices
 pub record Slices : Type 0 where
@@ -34,9 +32,9 @@ lengths_of s =
     }
 
 -- what an answer says: tables, or a refusal's number and place on the sheet (METHOD 8.1)
-abbrev pub says : Decomposed → Answer Unit
-says Tables = success tt
-says (Refused r) = refusal_of r
+abbrev pub says : Result Unit Refusal → Answer Unit
+says (Ok done) = success tt
+says (Err r) = refusal_of r
 
 -- METHOD 8.2: the first row that applies, else the tables; the slices count by their lengths alone
 unfoldable pub answer : ℕ → List ℤ → Slices → Answer Unit
@@ -58,7 +56,7 @@ after (success _) start figures s =
 after (refusal number place) start figures s = s
 
 -- METHOD 10, the promise of decomposing: of its answer r and of the slices as lent and as left
-pub record Promise (start : ℕ) (figures : List ℤ) (lent : Slices) (r : Decomposed) (left : Slices) : Type 0 where
+pub record Promise (start : ℕ) (figures : List ℤ) (lent : Slices) (r : Result Unit Refusal) (left : Slices) : Type 0 where
   pub answered : says r ≡ answer start figures lent
   pub slices : left ≡ after (answer start figures lent) start figures lent
   -- METHOD 10.3 with 6.4: where the answer is tables, in each month, the exact working taking the seasonal filter and the length that the rules choose
@@ -69,4 +67,4 @@ pub record Promise (start : ℕ) (figures : List ℤ) (lent : Slices) (r : Decom
 
 -- METHOD 8.4, which follows: a refusal, whichever it is, leaves every slice as it was lent (shown in proofs/Answers.antt)
 abbrev pub RefusalTouchesNothing : Type 0
-RefusalTouchesNothing = (start : ℕ) (figures : List ℤ) (lent left : Slices) (q : Refusal) → Promise start figures lent (Refused q) left → left ≡ lent
+RefusalTouchesNothing = (start : ℕ) (figures : List ℤ) (lent left : Slices) (q : Refusal) → Promise start figures lent (Err q) left → left ≡ lent

@@ -4,15 +4,10 @@
 ghost use Rattle.decompose.specs.Promise.{Promise};
 
 use checks::Lengths;
-use refusals::{Refusal, Verdict};
-
-#[derive(Clone, Copy)]
-pub enum Decomposed {
-    Tables,
-    Refused(Refusal),
-}
+use refusals::Refusal;
 
 // A series of figures from a start month into D10 to D13, B17 and C17, or a refusal (METHOD 8.2).
+#[tactic(auto, unfolding(crate::specs::Promise::lengths_of))]
 pub fn decompose(
     figures: &[i32],
     start: u8,
@@ -23,7 +18,7 @@ pub fn decompose(
     b17: &mut [u16],
     c17: &mut [u16],
     scratch: &mut [i64],
-) -> Decomposed
+) -> Result<(), Refusal>
     ensures { Promise start figures.now
         (record { d10 = d10.old; d11 = d11.old; d12 = d12.old; d13 = d13.old; b17 = b17.old; c17 = c17.old; scratch = scratch.old })
         result
@@ -38,10 +33,7 @@ pub fn decompose(
         c17: c17.len(),
         scratch: scratch.len(),
     };
-    let verdict = checks::first_refusal(figures, start, lent);
-    if let Verdict::Refused(refusal) = verdict {
-        return Decomposed::Refused(refusal);
-    }
+    checks::first_refusal(figures, start, lent)?;
     three_passes::three_passes(figures, start, d10, d11, d12, d13, b17, c17, scratch);
-    Decomposed::Tables
+    Ok(())
 }
