@@ -5,7 +5,7 @@ use mathlib.Core.List.{List}
 use Prim.Native.Nat.{ℕ, ◌+◌, ◌*◌, ◌-◌, ◌≤◌, ◌<◌}
 use native.Mathlib.Nat.{le_trans, mul-le-mul_left, mul-le-mul_right, add-mul}
 use native.Mathlib.Omega.{arith}
-use lib.Dec.{T, leb, leb→le, eqb}
+use lib.Dec.{eqb}
 use borrow.Author.Tests.{eq-eqb, ne_eqb}
 use lib.ListN.{length, take, drop}
 use lib.Seq.{get_or-take, get_or-drop}
@@ -20,9 +20,8 @@ use Rattle.integers.proofs.SumLaws.{sum_same, sum_n-same, wsum-within}
 use Rattle.integers.specs.Promises.{largest_quotient}
 use Rattle.rows.specs.Table.{Table, row_for, middle_row, row_weight, denominator}
 use Rattle.filters.specs.Filter.{dot, weighted_sum, by_row}
-use Rattle.rows.specs.Stored.{largest_norm, largest_over, most_side, most_step, most_width, most_row_step, Readable}
+use Rattle.rows.specs.Stored.{largest_norm, largest_over, Readable}
 use Rattle.filters.specs.Promises.{largest, Dots, Served}
-use Rattle.filters.proofs.Light.{Light}
 
 pub denominator-limits : (F : Table) → Readable F → (r : ℕ) → (1 ≤ denominator F r) × (denominator F r ≤ largest_over)
 unfolding denominator
@@ -96,25 +95,3 @@ in_middle F r e = rw (eq-eqb r (F.side * F.row_step) e)
 pub at-ends : (F : Table) (r : ℕ) → (r ≡ F.side * F.row_step → ⊥) → F.ends ≡ denominator F r
 unfolding denominator middle_row
 at-ends F r e = rw (ne_eqb r (F.side * F.row_step) e)
-
--- what is asked of a table, as tests that are computed
-abbrev pub Asked : Table → Type 0
-Asked F =
-    T (leb 1 F.side) × T (leb F.side most_side) × T (leb F.row_step most_row_step) × T (leb 1 F.step) × T (leb F.step most_step) × T (leb F.width most_width) × T (leb ((F.side * F.row_step + F.side) * F.width + (2 * F.side + 1)) (length F.rows))
-    × T (leb 1 F.middle) × T (leb 1 F.ends) × T (leb F.middle largest_over) × T (leb F.ends largest_over)
-
-pub readable : (F : Table) {L N : ℕ} → Asked F → Light L N F → N ≤ largest_norm → Readable F
-readable F q w most = record {
-  side_least = leb→le _ _ q.0;
-  side_most = leb→le _ _ q.1;
-  row_step_most = leb→le _ _ q.2;
-  step_least = leb→le _ _ q.3;
-  step_most = leb→le _ _ q.4;
-  width_most = leb→le _ _ q.5;
-  rows_long = leb→le _ _ q.6;
-  light = λ b a i j. le_trans (w.at b a i j).light (mul-le-mul_right (denominator F (row_for F b a)) most);
-  middle_least = leb→le _ _ q.7;
-  ends_least = leb→le _ _ q.8;
-  middle_most = leb→le _ _ q.9;
-  ends_most = leb→le _ _ q.10;
-}

@@ -7,7 +7,7 @@ use lib.Dec.{T, ltb, eqb, ltb→lt, eqb→eq}
 use lib.IntN.{ℤ, pos, negsuc, nat_abs}
 use Rattle.integers.specs.Sums.{sum_z, sum_n, norm}
 use Rattle.rows.specs.Table.{Table, row_count, row_weight, denominator}
-use Rattle.rows.proofs.RowTests.{left, right, all, all-at, Fair}
+use Rattle.rows.proofs.RowTests.{both, all, all-at, Fair}
 
 -- ---- m weights w over d
 pub record Mean (m : ℕ) (w : ℕ → ℤ) (d : ℕ) : Type 0 where
@@ -49,13 +49,10 @@ not-below (pos n) t = refl
 not-below (negsuc n) t = absurd t
 
 pub mean-row : (F : Table) (L r : ℕ) → T (mean L F r) → Fair L 1000 (denominator F r) (norm (2 * F.side + 1) (row_weight F r))
-mean-row F L r ok =
-    let d = denominator F r in
+mean-row F L r t =
     let m = 2 * F.side + 1 in
     let w = row_weight F r in
-    let a = left (ltb 0 d && eqb (d * (L / d)) L) (all m (λ k. none_below_zero (w k)) && is d (sum_z m w)) ok in
-    let b = right (ltb 0 d && eqb (d * (L / d)) L) (all m (λ k. none_below_zero (w k)) && is d (sum_z m w)) ok in
-    mean_fair L (record {
-      none_below = λ j l. not-below (w j) (all-at m (λ k. none_below_zero (w k)) (left (all m (λ k. none_below_zero (w k))) (is d (sum_z m w)) b) j l);
-      one = is_so d (sum_z m w) (right (all m (λ k. none_below_zero (w k))) (is d (sum_z m w)) b);
-    }) (ltb→lt 0 d (left (ltb 0 d) (eqb (d * (L / d)) L) a)) (eqb→eq (d * (L / d)) L (right (ltb 0 d) (eqb (d * (L / d)) L) a))
+    let parts = both _ (all m (λ k. none_below_zero (w k)) && is (denominator F r) (sum_z m w)) t in
+    let over = both _ _ parts.0 in
+    let weights = both (all m (λ k. none_below_zero (w k))) _ parts.1 in
+    mean_fair L (record { none_below = λ j l. not-below (w j) (all-at m (λ k. none_below_zero (w k)) weights.0 j l); one = is_so _ (sum_z m w) weights.1 }) (ltb→lt _ _ over.0) (eqb→eq _ _ over.1)

@@ -16,6 +16,9 @@ pub right : (a b : Bool) → T (a && b) → T b
 right true b t = t
 right false b t = absurd t
 
+pub both : (a b : Bool) → T (a && b) → T a × T b
+both a b t = (left a b t, right a b t)
+
 -- ---- a test of every number below n
 abbrev pub all : ℕ → (ℕ → Bool) → Bool
 all zero p = true
@@ -24,8 +27,7 @@ all (suc n) p = all n p && p n
 pub all-at : (n : ℕ) (p : ℕ → Bool) → T (all n p) → (k : ℕ) → k < n → T (p k)
 all-at zero p t k h = absurd (not-suc-le-zero h)
 all-at (suc n) p t k h =
-    ⊎_elim (λ e. subst (λ (m : ℕ). T (p m)) (sym e) (right (all n p) (p n) t)) (λ l. all-at n p (left (all n p) (p n) t) k l)
-    (eq-or-lt_of_le (le_of_suc-le-suc h))
+    ⊎_elim (λ e. subst (λ (m : ℕ). T (p m)) (sym e) (right _ _ t)) (λ l. all-at n p (left _ _ t) k l) (eq-or-lt_of_le (le_of_suc-le-suc h))
 
 -- ---- the test of a row: its denominator divides L, and the sizes of its weights sum to at most N thousandths of it
 abbrev pub fair : ℕ → ℕ → Table → ℕ → Bool
@@ -43,12 +45,4 @@ pub record Fair (L N d a : ℕ) : Type 0 where
   pub light : a * 1000 ≤ N * d
 
 pub fair-row : (F : Table) (L N r : ℕ) → T (fair L N F r) → Fair L N (denominator F r) (norm (2 * F.side + 1) (row_weight F r))
-fair-row F L N r ok =
-    let d = denominator F r in
-    let a = norm (2 * F.side + 1) (row_weight F r) in
-    let rest = right (ltb 0 d) (eqb (d * (L / d)) L && leb (a * 1000) (N * d)) ok in
-    record {
-      positive = ltb→lt 0 d (left (ltb 0 d) (eqb (d * (L / d)) L && leb (a * 1000) (N * d)) ok);
-      divides = eqb→eq (d * (L / d)) L (left (eqb (d * (L / d)) L) (leb (a * 1000) (N * d)) rest);
-      light = leb→le (a * 1000) (N * d) (right (eqb (d * (L / d)) L) (leb (a * 1000) (N * d)) rest);
-    }
+fair-row F L N r t = let rest = both _ _ (right _ _ t) in record { positive = ltb→lt _ _ (left _ _ t); divides = eqb→eq _ _ rest.0; light = leb→le _ _ rest.1 }

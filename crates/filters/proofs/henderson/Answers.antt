@@ -5,20 +5,20 @@ use Rattle.rows.specs.Table.{middle_row, row_count, row_weight, denominator}
 use Rattle.integers.proofs.FillingLaws.{filled-tab}
 use Rattle.rows.specs.FilterTables.{table_henderson, over_henderson}
 use Rattle.filters.specs.Filter.{filter}
-use Rattle.filters.proofs.Stored.{readable_rows}
+use Rattle.filters.proofs.Stored.{readable}
 use Rattle.filters.proofs.henderson.Goals as goal
 
 pub invariant_of-fill_months : goal.invariant_of-fill_months
 unfolding middle_row row_count row_weight denominator sum_n
-invariant_of-fill_months c = record { readable = readable_rows _ over_henderson (tt, tt, tt, tt, tt, tt, tt, tt, tt, tt, tt) tt }
+invariant_of-fill_months c = record { readable = readable _ over_henderson tt }
 
 pub invariant_of-fill_months-in-Thirteen : goal.invariant_of-fill_months-in-Thirteen
 unfolding middle_row row_count row_weight denominator sum_n
-invariant_of-fill_months-in-Thirteen c = record { readable = readable_rows _ over_henderson (tt, tt, tt, tt, tt, tt, tt, tt, tt, tt, tt) tt }
+invariant_of-fill_months-in-Thirteen c = record { readable = readable _ over_henderson tt }
 
 pub invariant_of-fill_months-in-TwentyThree : goal.invariant_of-fill_months-in-TwentyThree
 unfolding middle_row row_count row_weight denominator sum_n
-invariant_of-fill_months-in-TwentyThree c = record { readable = readable_rows _ over_henderson (tt, tt, tt, tt, tt, tt, tt, tt, tt, tt, tt) tt }
+invariant_of-fill_months-in-TwentyThree c = record { readable = readable _ over_henderson tt }
 
 pub returns-in-Nine : goal.returns-in-Nine
 unfolding table_henderson filter

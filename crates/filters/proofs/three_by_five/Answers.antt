@@ -2,12 +2,12 @@
 use Rattle.integers.specs.Sums.{sum_n}
 use Rattle.rows.specs.Table.{middle_row, row_count, row_weight, denominator}
 use Rattle.rows.specs.FilterTables.{table_seasonal}
-use Rattle.filters.proofs.Stored.{readable_rows}
+use Rattle.filters.proofs.Stored.{readable}
 use Rattle.filters.proofs.three_by_five.Goals as goal
 
 pub invariant_of-fill_months : goal.invariant_of-fill_months
 unfolding middle_row row_count row_weight denominator sum_n
-invariant_of-fill_months c = record { readable = readable_rows _ 60 (tt, tt, tt, tt, tt, tt, tt, tt, tt, tt, tt) tt }
+invariant_of-fill_months c = record { readable = readable _ 60 tt }
 
 pub returns : goal.returns
 unfolding table_seasonal
