@@ -11,7 +11,7 @@ pub mod three_by_nine;
 
 // METHOD 2.1: a filter's table as it is stored. Its rows stand one after the other, each `width` places long, for values `step` months apart and at most
 // `side` of them on each side; the rows for one value more before stand `row_step` rows on. `middle` is the denominator of the middle row, `ends` that of
-// the others.
+// the others. That each row is there, and how large its weights are, is a fact of the type.
 #[derive(Clone, Copy)]
 pub struct StoredTable {
     pub side: usize,
