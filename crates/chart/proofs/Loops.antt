@@ -12,8 +12,8 @@ use Rattle.integers.proofs.SumLaws.{sum_n-more}
 use Rattle.integers.proofs.FillingLaws.{length-tab, at-tab, tab-same}
 use Rattle.chart.specs.Chart.{Starts, column_of, first_in, in_column, place, month_order, order_of_t}
 use Rattle.chart.proofs.Places.{mod-of, div-of, first_below, column-below, place-below, place-cell, outside, month-cell, in-its-column, all_columns}
-use Rattle.chart.proofs.Rearranging.{length-order_of_t, at-order_of_t, at-place, columns_again}
-use Rattle.chart.specs.Promises.{Follows, Stands, Reached}
+use Rattle.chart.proofs.Rearranging.{length-order_of_t, at-order_of_t, columns_again}
+use Rattle.chart.specs.Promises.{Follows, Reached}
 
 -- ---- what loops need
 -- a list made place by place, back in the order of months
@@ -74,19 +74,9 @@ module _ (p s : ℕ) (v : Starts p s) (n : ℕ) where
           let m : column_of p s t + 1 ≡ p = omega (arith, column-below p s v t) in
           absurd (omega (arith, last t h e, all_columns p s v n, ap (λ (j : ℕ). sum_n j (in_column p s n)) m))
 
--- how far a loop has come that goes on in month order
-module _ {p s n : ℕ} where
-  pub reached_first : {t : ℕ} → Starts p s → p ≤ n → t ≡ first_in p s 0 → Reached p s n 0 t
-  reached_first v h e = record { inside = omega (arith, e, first_below p s v 0); here = λ _. ap (place p s n) e ∙ first-place p s v n }
-
-  pub reached_next : {i t r : ℕ} → Reached p s n i t → i < n → Follows p s n t r → Reached p s n (i + 1) r
-  reached_next q l f = record { inside = f.inside; here = λ h. f.after (omega (arith, q.here l)) ∙ omega (arith, q.here l) }
-
-  -- the value there
-  pub reached_value : {A : Type 0} {i t : ℕ} (d : A) (xs : List A) → Starts p s → length xs ≡ n → Reached p s n i t → i < n → get_or (month_order d p s xs) i d ≡ get_or xs t d
-  reached_value {A} {i} {t} d xs v e q l =
-      let here : place p s (length xs) t ≡ i = ap (λ (k : ℕ). place p s k t) e ∙ q.here l in
-      ap (λ (k : ℕ). get_or (month_order d p s xs) k d) (sym here) ∙ at-place d p s v xs t (omega (arith, q.inside))
+-- a loop that goes on in month order begins with the first month there
+pub reached_first : {p s n t : ℕ} → Starts p s → p ≤ n → t ≡ first_in p s 0 → Reached p s n 0 t
+reached_first {p} {s} {n} v h e = record { inside = omega (arith, e, first_below p s v 0); here = λ _. ap (place p s n) e ∙ first-place p s v n }
 
 -- one column: the order stays
 pub one-starts : Starts 1 1

@@ -145,14 +145,8 @@ module _ (p s : ℕ) (v : Starts p s) where
     all_columns = omega (arith, before_closed p (omega arith), mod-lt (s - 1 + n) {m = p} (omega arith), div-add-mod' (s - 1 + n) p, mul_comm p whole)
 
     -- the same as code computes it
-    pub rows_fit : (c : ℕ) → c ≤ p → c * whole ≤ s - 1 + n
-    rows_fit c h = omega (arith, mul-le-mul_right whole h, div-add-mod' (s - 1 + n) p, mul_comm p whole)
-
     pub before_computed : (c : ℕ) → c ≤ p → c * whole + min c last - min c (s - 1) ≡ sum_n c (in_column p s n)
     before_computed c h = omega (arith, before_closed c h)
-
-    pub before_room : (c : ℕ) → c ≤ p → min c (s - 1) ≤ c * whole + min c last
-    before_room c h = omega (arith, before_closed c h)
 
     -- ---- places
     -- y years below the first of column c

@@ -4,7 +4,7 @@ use mathlib.Core.Path.{◌≡◌, refl, sym, ap, ◌∙◌}
 use mathlib.Core.Bool.{Bool, true, false, not}
 use mathlib.Core.Logic.{⊎_elim}
 use mathlib.Core.List.{List, ◌++◌}
-use native.Mathlib.Nat.{add-zero, mul-zero, mul-suc, mul-le-mul_left}
+use native.Mathlib.Nat.{mul-suc, mul-le-mul_left}
 use native.Mathlib.Decide.{dec_le, ℕ_discrete}
 use native.Mathlib.Omega.{arith}
 use lib.IntN.{ℤ}
@@ -75,9 +75,6 @@ pub record Lowest {A : Type 0} (test : A → Bool) (f : ℕ → A) (p s n i : �
   pub passed : (u : ℕ) → u < n → place p s n u < i → IfSome lowest (λ t. u < t) → test (f (place p s n u)) ≡ true
 
 module _ {A : Type 0} {test : A → Bool} {f : ℕ → A} {p s n : ℕ} (v : Starts p s) where
-  pub lowest_none : Lowest test f p s n 0 None
-  lowest_none = record { bad = tt; passed = λ u a b h. absurd (omega arith) }
-
   -- one value more, x, which passes or fails
   pub lowest_passed : {i t : ℕ} {lowest : Option ℕ} {x : A} → Lowest test f p s n i lowest → Stands p s n i t → x ≡ f i → test x ≡ true → Lowest test f p s n (i + 1) lowest
   lowest_passed {i} {t} {lowest} q k e h = record { bad = q.bad; passed = λ u a b l. at u a b l (ℕ_discrete u t) }
@@ -132,9 +129,6 @@ pub record WalkFilled {A : Type 0} (d : A) (f : ℕ → A) (p s n i : ℕ) (old 
   pub rest : (u : ℕ) → n ≤ u → get_or new u d ≡ get_or old u d
 
 module _ {A : Type 0} {d : A} {f : ℕ → A} {p s n : ℕ} {old : List A} where
-  pub walk_none : WalkFilled d f p s n 0 old old
-  walk_none = record { long = refl; here = λ u a b. absurd (omega arith); rest = λ u a. refl }
-
   module _ (v : Starts p s) (room : n ≤ length old) where
     pub walk_more : {i t : ℕ} {x : A} {new : List A} → WalkFilled d f p s n i old new → Stands p s n i t → x ≡ f i → WalkFilled d f p s n (i + 1) old (set new t x)
     walk_more {i} {t} {x} {new} q k e = record {
@@ -170,9 +164,6 @@ pub record Stored {A : Type 0} (d : A) (width : ℕ) (code : A → ℕ) (p s : �
   pub left : sets old from (array width code (month_order d p s xs)) ≡ sets new (from + width * i) (array width code (drop i (month_order d p s xs)))
 
 module _ {A : Type 0} {d : A} {width : ℕ} {code : A → ℕ} {p s : ℕ} {xs : List A} {from : ℕ} {old : List ℕ} where
-  pub stored_none : Stored d width code p s xs from old 0 old
-  stored_none = record { long = refl; left = rw (mul-zero, add-zero) }
-
   module _ (v : Starts p s) where
     pub stored_more : {i t value : ℕ} {new next : List ℕ} → Stored d width code p s xs from old i new → Stands p s (length xs) i t → value ≡ code (get_or xs t d)
         → next ≡ sets new (from + width * i) (bytes_of width value) → Stored d width code p s xs from old (i + 1) next

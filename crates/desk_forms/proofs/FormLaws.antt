@@ -1,5 +1,5 @@
 -- The two forms by one law each: the order of their arrays, where these lie, and what they mean.
-use Prim.Native.Nat.{ℕ, ◌≤◌}
+use Prim.Native.Nat.{ℕ}
 use mathlib.Core.Path.{◌≡◌, refl, sym, ap, ◌∙◌}
 use mathlib.Core.Bool.{true}
 use mathlib.Core.List.{List}
@@ -19,7 +19,7 @@ use Rattle.desk_arrays.proofs.ArrayLaws.{length-figures_at, length-weights_at}
 use Rattle.desk_forms.specs.declared.Form.{Form}
 use Rattle.desk_forms.specs.declared.Form.TheVariants.{Plain, Columns}
 use Rattle.desk_forms.specs.Header.{series, count_in, start_in, weights_start}
-use Rattle.desk_forms.specs.File.{header_length, series_in}
+use Rattle.desk_forms.specs.File.{series_in}
 use Rattle.desk_forms.specs.ColumnsFile.{series_in_columns}
 use Rattle.desk_forms.specs.Forms.{front_of, months_in, start_of, meaning_of, Sized}
 
@@ -38,10 +38,6 @@ charted_columns {n} {start} h = record {
   count = omega (arith, h.most);
   full = omega (arith, h.least);
 }
-
-pub front_least : (form : Form) → header_length ≤ front_of form
-front_least Plain = omega arith
-front_least Columns = omega arith
 
 -- ---- what a file means
 pub figures_by : (form : Form) (file : List ℕ)

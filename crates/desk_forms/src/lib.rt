@@ -10,8 +10,8 @@ mod dated;
 mod sized;
 
 use chart::Chart;
-use desk_arrays::Entry;
 pub use dated::DatedSeries;
+use desk_arrays::Entry;
 pub use sized::SizedFile;
 
 // In order of t, or by calendar month with the first year.
