@@ -6,17 +6,15 @@ use native.Mathlib.Omega.{arith}
 use lib.IntN.{ℤ}
 use lib.ListN.{length, take, drop, length-take}
 use lib.Seq.{length-take-le, take_at, sets-eq}
+use Rattle.std.specs.Prelude.{Result, Ok, Err}
 use Rattle.refusals.specs.declared.Refusal.{Refusal}
 use Rattle.refusals.specs.Limits.{most_months}
 use Rattle.refusals.specs.Sheet.{Answer, success, row}
-use Rattle.desk_file.specs.declared.Reading.{Reading}
-use Rattle.desk_file.specs.declared.Reading.TheVariants.{Series, Refused as NotRead}
+use Rattle.desk_file.specs.declared.Series.{Series}
 use Rattle.desk_forms.specs.File.{series_in}
 use Rattle.desk_file.specs.ReadFile.{Accepted, accepted, read_says, read_answer, ReadDone}
 use Rattle.desk_forms.proofs.FormLaws.{meaning-months}
 use Rattle.desk_file.proofs.Answers.{read_sized}
-use Rattle.decompose.specs.declared.Decomposed.{Decomposed}
-use Rattle.decompose.specs.declared.Decomposed.TheVariants.{Tables, Refused}
 use Rattle.decompose.specs.Promise.{Slices, Promise, answer, after, says, lengths_of}
 use Rattle.decimals.specs.declared.Text.{Text}
 use Rattle.decimals.specs.Storing.{Stored, Put}
@@ -44,12 +42,12 @@ pub fronts_lent : (n : ℕ) (x : List ℤ) (w : List ℕ) (scratch : List ℤ) �
 unfolding lengths_of
 fronts_lent n x w scratch h g e = rw (length-take-le n x h, length-take-le n w g, e)
 
-module _ {start : ℕ} {figures : List ℤ} {lent left : Slices} {r : Decomposed} (p : Promise start figures lent r left) (h : lengths_of lent ≡ lent_for (length figures)) where
+module _ {start : ℕ} {figures : List ℤ} {lent left : Slices} {r : Result Unit Refusal} (p : Promise start figures lent r left) (h : lengths_of lent ≡ lent_for (length figures)) where
   says-answer : says r ≡ series_answer start figures
   unfolding answer series_answer
   says-answer = rw h at p.answered
 
-  pub tables-printed : r ≡ Tables → {a b c d : List ℤ} {w : List ℕ} → a ≡ left.d10 → b ≡ left.d11 → c ≡ left.d12 → d ≡ left.d13 → w ≡ left.c17
+  pub tables-printed : r ≡ Ok tt → {a b c d : List ℤ} {w : List ℕ} → a ≡ left.d10 → b ≡ left.d11 → c ≡ left.d12 → d ≡ left.d13 → w ≡ left.c17
       → tables_text (record { figures = figures; d10 = a; d11 = b; d12 = c; d13 = d; c17 = w }) start ≡ series_text start figures
   unfolding series_text decomposed_text tables_of after
   tables-printed e i j k l m =
@@ -59,45 +57,45 @@ module _ {start : ℕ} {figures : List ℤ} {lent left : Slices} {r : Decomposed
       (ap (λ (s : Slices). tables_text (record { figures = figures; d10 = s.d10; d11 = s.d11; d12 = s.d12; d13 = s.d13; c17 = s.c17 }) start) tables
       ∙ ap (λ (a : Answer Unit). decomposed_text a start figures) (sym (ap says e) ∙ says-answer))
 
-  pub refusal-printed : (q : Refusal) → r ≡ Refused q → refused_line (row q).number (row q).place ≡ series_text start figures
+  pub refusal-printed : (q : Refusal) → r ≡ Err q → refused_line (row q).number (row q).place ≡ series_text start figures
   unfolding series_text decomposed_text
   refusal-printed q e = ap (λ (a : Answer Unit). decomposed_text a start figures) (sym (ap says e) ∙ says-answer)
 
 -- ---- reading
-module _ {file : List ℕ} {figures₀ figures : List ℤ} {weights₀ weights : List ℕ} {r : Reading} (p : ReadDone file figures₀ weights₀ r figures weights)
+module _ {file : List ℕ} {figures₀ figures : List ℤ} {weights₀ weights : List ℕ} {r : Result Series Refusal} (p : ReadDone file figures₀ weights₀ r figures weights)
     (f : length figures₀ ≡ most_months) (w : length weights₀ ≡ most_months) where
   read_answer_lem : read_says r ≡ read_answer file most_months most_months
   read_answer_lem = rw (f, w) at p.answer
 
-  pub unread-printed : (q : Refusal) → r ≡ NotRead q → unread_text (read_says r) ≡ printed file
+  pub unread-printed : (q : Refusal) → r ≡ Err q → unread_text (read_says r) ≡ printed file
   unfolding printed read_text unread_text
-  unread-printed q e = ap (λ (x : Reading). unread_text (read_says x)) e ∙ ap (λ (a : Answer Accepted). read_text a file) (sym (ap read_says e) ∙ read_answer_lem)
+  unread-printed q e = ap (λ (x : Result Series Refusal). unread_text (read_says x)) e ∙ ap (λ (a : Answer Accepted). read_text a file) (sym (ap read_says e) ∙ read_answer_lem)
 
-  module _ (n start : ℕ) (e : r ≡ Series n start) where
-    told : read_answer file (length figures₀) (length weights₀) ≡ accepted n start
+  module _ (s : Series) (e : r ≡ Ok s) where
+    told : read_answer file (length figures₀) (length weights₀) ≡ accepted s.count s.start
     told = sym p.answer ∙ ap read_says e
 
     pub nothing_put : unread_text (read_says r) ≡ []
     unfolding unread_text
-    nothing_put = ap (λ (x : Reading). unread_text (read_says x)) e
+    nothing_put = ap (λ (x : Result Series Refusal). unread_text (read_says x)) e
 
-    pub months-fit : n ≤ most_months
+    pub months-fit : s.count ≤ most_months
     months-fit = (read_sized file (length figures₀) (length weights₀) told).most
 
-    long : length (series_in file).figures ≡ n
+    long : length (series_in file).figures ≡ s.count
     long = (meaning-months (read_sized file (length figures₀) (length weights₀) told)).0
 
-    figures_read : take n figures ≡ (series_in file).figures
+    figures_read : take s.count figures ≡ (series_in file).figures
     figures_read =
         let left : figures ≡ (series_in file).figures ++ drop (length (series_in file).figures) figures₀ = rw told at p.figures_left in
-        ap (take n) left ∙ take_at (series_in file).figures _ n long
+        ap (take s.count) left ∙ take_at (series_in file).figures _ s.count long
 
-    pub months-read : length (take n figures) ≡ n
+    pub months-read : length (take s.count figures) ≡ s.count
     months-read = ap length figures_read ∙ long
 
-    pub figures_room : n ≤ length figures
-    figures_room = omega (arith, length-take n figures, months-read)
+    pub figures_room : s.count ≤ length figures
+    figures_room = omega (arith, length-take s.count figures, months-read)
 
-    pub series-printed : series_text start (take n figures) ≡ printed file
+    pub series-printed : series_text s.start (take s.count figures) ≡ printed file
     unfolding printed read_text
-    series-printed = ap (series_text start) figures_read ∙ ap (λ (a : Answer Accepted). read_text a file) (sym (ap read_says e) ∙ read_answer_lem)
+    series-printed = ap (series_text s.start) figures_read ∙ ap (λ (a : Answer Accepted). read_text a file) (sym (ap read_says e) ∙ read_answer_lem)

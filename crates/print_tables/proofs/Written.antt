@@ -6,7 +6,7 @@ use native.Mathlib.Omega.{arith}
 use borrow.Author.Tests.{ltb-false, not-false, le-leb}
 use lib.IntN.{ℤ}
 use lib.ListN.{length, get_or}
-use Rattle.refusals.specs.declared.Found.TheVariants.{Nowhere}
+use Rattle.std.specs.Prelude.{None}
 use Rattle.refusals.specs.Limits.{least_months, most_months, full_weight, earliest_year}
 use Rattle.refusals.specs.Inside.{weight_inside}
 use Rattle.refusals.specs.First.{first_above}
@@ -27,7 +27,7 @@ use Rattle.decompose.specs.Promise.{Slices, lengths_of, answer, after}
 use Rattle.print_tables.specs.Written.{Written, DecomposedThenWritten}
 
 -- weights of which none is above 1,000 pass row 10
-none_above : {n : ℕ} (weights : List ℕ) → WeightsOfMonths n weights → first_above weights ≡ Nowhere
+none_above : {n : ℕ} (weights : List ℕ) → WeightsOfMonths n weights → first_above weights ≡ None
 unfolding first_above weight_inside
 none_above weights h = sym (first-none {d = 0} (record { each = λ t l. le-leb (get_or weights t 0) full_weight (h.most t) }) refl)
 

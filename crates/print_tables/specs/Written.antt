@@ -1,9 +1,8 @@
 -- METHOD 7.3: what decomposing leaves in B17 and C17, writing accepts (shown in proofs/Written.antt).
-use Rattle.std.specs.Prelude.{ℕ, ◌+◌, ◌*◌, ◌≤◌, ◌≡◌, List, ℤ, length}
+use Rattle.std.specs.Prelude.{ℕ, ◌+◌, ◌*◌, ◌≤◌, ◌≡◌, List, ℤ, length, Ok}
 use Rattle.refusals.specs.Sheet.{success}
 use Rattle.desk_forms.specs.Header.{series}
 use Rattle.desk_file.specs.WriteFile.{write_answer}
-use Rattle.decompose.specs.declared.Decomposed.TheVariants.{Tables}
 use Rattle.decompose.specs.Promise.{Slices, Promise}
 
 -- METHOD 7.3: a series with these weights is written into every output that has room for its file, 4 + 6n bytes, and the answer is that length
@@ -17,4 +16,4 @@ pub record WeightsWritten (start : ℕ) (figures : List ℤ) (left : Slices) : T
 
 -- for every series and whatever slices were lent, where the answer of decomposing is tables
 abbrev pub DecomposedThenWritten : Type 0
-DecomposedThenWritten = (start : ℕ) (figures : List ℤ) (lent left : Slices) → Promise start figures lent Tables left → WeightsWritten start figures left
+DecomposedThenWritten = (start : ℕ) (figures : List ℤ) (lent left : Slices) → Promise start figures lent (Ok tt) left → WeightsWritten start figures left

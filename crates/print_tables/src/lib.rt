@@ -9,9 +9,9 @@ ghost use Rattle.print_lines.specs.Text.{text_room};
 ghost use Rattle.print_tables.specs.Printed.{PrintDone, printed, series_text, unread_text};
 
 use decimals::Text;
-use decompose::Decomposed;
-use desk_file::Reading;
+use desk_file::Series;
 use print_lines::Tables;
+use refusals::Refusal;
 
 // The text of a series: its tables, or the line of decomposing's refusal.
 fn put_series(text: &mut Text<'_>, start: u8, figures: &[i32])
@@ -38,7 +38,7 @@ fn put_series(text: &mut Text<'_>, start: u8, figures: &[i32])
         &mut scratch,
     );
     match answer {
-        Decomposed::Tables => {
+        Ok(()) => {
             let tables = Tables {
                 figures,
                 d10: &d10[..n],
@@ -49,16 +49,16 @@ fn put_series(text: &mut Text<'_>, start: u8, figures: &[i32])
             };
             tables.put(text, start);
         }
-        Decomposed::Refused(refusal) => print_lines::put_refusal(text, refusal),
+        Err(refusal) => print_lines::put_refusal(text, refusal),
     }
 }
 
 // The line of a refusal by the reader; nothing for a file that it accepts.
-fn put_unread(text: &mut Text<'_>, answer: Reading)
+fn put_unread(text: &mut Text<'_>, answer: Result<Series, Refusal>)
     requires { text.old.at + text_room ≤ length text.old.out.now }
     ensures { Put text_room text.old (unread_text (read_says answer)) text.new }
 {
-    if let Reading::Refused(refusal) = answer {
+    if let Err(refusal) = answer {
         print_lines::put_refusal(text, refusal);
     }
 }
@@ -72,7 +72,7 @@ fn put_text(text: &mut Text<'_>, file: &[u8])
     let mut weights = [0u16; refusals::MOST_MONTHS];
     let answer = desk_file::read(file, &mut figures, &mut weights);
     put_unread(text, answer);
-    let Reading::Series { count, start } = answer else {
+    let Ok(Series { count, start }) = answer else {
         return;
     };
     put_series(text, start, &figures[..count]);

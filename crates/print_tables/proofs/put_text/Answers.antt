@@ -11,18 +11,18 @@ returns-in_default c = put-eq (unread-printed c.read-answer.ensures refl refl _ 
 pub put_series-requires : goal.put_series-requires
 put_series-requires c =
     let read = c.read-answer.ensures in
-    let told = c.in-Series.is in
-    let put = put-eq (nothing_put read refl refl _ _ told) c.put_unread.ensures in
-    (omega (arith, put.stored), omega (arith, months-read read refl refl _ _ told, months-fit read refl refl _ _ told))
+    let told = c.in-Ok.is in
+    let put = put-eq (nothing_put read refl refl _ told) c.put_unread.ensures in
+    (omega (arith, put.stored), omega (arith, months-read read refl refl _ told, months-fit read refl refl _ told))
 
 pub returns : goal.returns
 returns c =
     let read = c.read-answer.ensures in
-    let told = c.in-Series.is in
-    after_nothing (put-eq (nothing_put read refl refl _ _ told) c.put_unread.ensures) (put-eq (series-printed read refl refl _ _ told) c.put_series.ensures)
+    let told = c.in-Ok.is in
+    after_nothing (put-eq (nothing_put read refl refl _ told) c.put_unread.ensures) (put-eq (series-printed read refl refl _ told) c.put_series.ensures)
 
 pub slice_bounds-figures-end : goal.slice_bounds-figures-end
-slice_bounds-figures-end c = figures_room c.read-answer.ensures refl refl _ _ c.in-Series.is
+slice_bounds-figures-end c = figures_room c.read-answer.ensures refl refl _ c.in-Ok.is
 
 pub slice_bounds-put_series-end : goal.slice_bounds-put_series-end
-slice_bounds-put_series-end c = sym (months-read c.read-answer.ensures refl refl _ _ c.in-Series.is)
+slice_bounds-put_series-end c = sym (months-read c.read-answer.ensures refl refl _ c.in-Ok.is)
