@@ -1,6 +1,5 @@
 -- The rearrangements of a pass, month by month, h being half a year: all of it is linear in h.
 use mathlib.Core.Path.{◌≡◌, sym, ap, ap₂, subst, subst⁻¹, ◌∙◌}
-use mathlib.Core.Logic.{◌⊎◌, inl, inr, ⊎_elim}
 use mathlib.Core.List.{List}
 use Prim.Native.Nat.{ℕ, ◌+◌, ◌*◌, ◌-◌, ◌≤◌, ◌<◌}
 use native.Mathlib.Decide.{dec_le}
@@ -8,6 +7,7 @@ use native.Mathlib.Omega.{arith}
 use lib.ListN.{length, get_or-eq_default}
 use lib.Seq.{ext_get_or}
 use lib.IntN.{ℤ, pos, ◌-ℤ◌}
+use Rattle.std.specs.List.{CopiedTo, SameBelow, SameFrom}
 use Rattle.integers.specs.Sizes.{◌within◌}
 use Rattle.integers.specs.Lists.{◌‼◌, tab, AllWithin}
 use Rattle.integers.specs.Filling.{Filled}
@@ -22,7 +22,7 @@ use Rattle.filters.proofs.ByMonth.{MonthsOf}
 use Rattle.steps.specs.Places.{inner, nearest_month, copied, widened}
 use Rattle.steps.proofs.Lengths.{length-inner}
 use Rattle.steps.proofs.ByMonth.{inner-months, filter-by-month, level-by-month, copied-first, copied-own, copied-last}
-use Rattle.pass.specs.Promises.{along, LessAlong, Copies, Levels, without_level_at, without_level}
+use Rattle.pass.specs.Promises.{along, LessAlong, Levels, without_level_at, without_level}
 
 -- ---- the level in three stretches: the first repeated, each in turn, the last repeated
 module _ (h first past t : ℕ) (long : first + (2 * h + 1) ≤ past) where
@@ -83,47 +83,33 @@ module _ {h first past : ℕ} {r m : List ℤ} (s : Levels h first past r m) whe
   without_levels F u v = filled_as v (λ t l i. let n = nearest-has h first past t s.long in ap (λ (z : ℤ). (r ‼ t) -ℤ z) (u.here _ n.0 n.1))
 
 -- ---- all months from the inner ones: both ends are copied
--- a month that is copied is not one of those that are filled
-pub copied-apart : {i lo hi n : ℕ} → Copies i lo hi n → (t : ℕ) → lo ≤ t → t < hi → (along i 1 lo t < lo) ⊎ (t ≤ along i 1 lo t)
-unfolding along
-copied-apart c t l u = ⊎_elim (λ p. inl (omega (arith, p))) (λ p. inr (omega (arith, p))) c.apart
-
 module _ (h n t : ℕ) where
-  takes_first : t < h → h + copied h n t ≡ along (2 * h) 1 0 t
-  unfolding along
+  takes_first : t < h → h + copied h n t ≡ 2 * h + (t - 0)
   takes_first l = omega (arith, copied-first h n t l)
 
   takes_own : h ≤ t → t < n - h → h + copied h n t ≡ t
   takes_own l i = omega (arith, copied-own h n t l i)
 
-  takes_last : 4 * h ≤ n → n - h ≤ t → h + copied h n t ≡ along (n - 3 * h) 1 (n - h) t
-  unfolding along
+  takes_last : 4 * h ≤ n → n - h ≤ t → h + copied h n t ≡ n - 3 * h + (t - (n - h))
   takes_last l i = omega (arith, copied-last h n t (omega arith) i)
 
-module _ (h n : ℕ) (long : 4 * h ≤ n) where
-  pub first_copies : Copies (2 * h) 0 h n
-  first_copies = record { order = omega arith; inside = omega arith; from = omega arith; apart = inr (omega arith) }
+-- the first h months copied to the front, then the last h
+module _ (h n : ℕ) (long : 4 * h ≤ n) (old : List ℤ) (e : length old ≡ n) where
+  -- month t copies month i, one of the inner ones
+  copies : (t i : ℕ) → h + copied h n t ≡ i → i < n - h → old ‼ i ≡ inner h old ‼ copied h n t
+  copies t i q l = ap (λ (k : ℕ). old ‼ k) (sym q) ∙ sym ((inner-months h old).same (copied h n t) (omega (arith, length-inner h old, e, q)))
 
-  pub last_copies : Copies (n - 3 * h) (n - h) n n
-  last_copies = record { order = omega arith; inside = omega arith; from = omega arith; apart = inl (omega arith) }
-
-  module _ {old a b : List ℤ} (e : length old ≡ n) (u : Filled (pos 0) (λ t. old ‼ along (2 * h) 1 0 t) 0 h old a)
-      (v : Filled (pos 0) (λ t. a ‼ along (n - 3 * h) 1 (n - h) t) (n - h) n a b) where
-    -- month t copies month i, one of the inner ones
-    copies : (t i : ℕ) → h + copied h n t ≡ i → i < n - h → old ‼ i ≡ inner h old ‼ copied h n t
-    copies t i q l = ap (λ (k : ℕ). old ‼ k) (sym q) ∙ sym ((inner-months h old).same (copied h n t) (omega (arith, length-inner h old, e, q)))
-
-    copies_at : (t : ℕ) → t < n → Dec (h ≤ t) → Dec (n - h ≤ t) → b ‼ t ≡ inner h old ‼ copied h n t
-    unfolding along
-    copies_at t l (no p) q = v.rest t (inl (omega arith)) ∙ u.here t (omega arith) (omega arith) ∙ copies t _ (takes_first h n t (omega arith)) (omega arith)
-    copies_at t l (yes p) (no q) = v.rest t (inl (omega arith)) ∙ u.rest t (inr p) ∙ copies t t (takes_own h n t p (omega arith)) (omega arith)
-    copies_at t l (yes p) (yes q) = v.here t q l ∙ u.rest _ (inr (omega arith)) ∙ copies t _ (takes_last h n t long q) (omega arith)
-
-    pub copies_filled : b ≡ widened h (inner h old)
-    unfolding widened pick
-    copies_filled =
-        let k : length (inner h old) + 2 * h ≡ n = omega (arith, length-inner h old, e, long) in
-        rw k (tab-same (pos 0) n (λ t. inner h old ‼ copied h n t) b (omega (arith, u.long, v.long, e)) (λ t l. copies_at t l (dec_le h t) (dec_le (n - h) t)))
+  pub copies_filled : (a b : List ℤ) (m : ℕ) → m ≡ h → length b ≡ n → CopiedTo old a (2 * h) 0 h × SameBelow old a 0 × SameFrom old a h
+      → CopiedTo a b (n - 3 * h) (n - h) m × SameBelow a b (n - h) × SameFrom a b (n - h + m) → b ≡ widened h (inner h old)
+  unfolding widened pick
+  copies_filled a b m q l u v =
+      let k : length (inner h old) + 2 * h ≡ n = omega (arith, length-inner h old, e, long) in
+      rw k (tab-same (pos 0) n (λ t. inner h old ‼ copied h n t) b l (λ t i. at t i (dec_le h t) (dec_le (n - h) t)))
+    where
+      at : (t : ℕ) → t < n → Dec (h ≤ t) → Dec (n - h ≤ t) → b ‼ t ≡ inner h old ‼ copied h n t
+      at t i (no p) r = v.1 t (pos 0) (omega arith) ∙ u.0 t (pos 0) (omega arith) (omega arith) ∙ copies t _ (takes_first h n t (omega arith)) (omega arith)
+      at t i (yes p) (no r) = v.1 t (pos 0) (omega arith) ∙ u.2 t (pos 0) p ∙ copies t t (takes_own h n t p (omega arith)) (omega arith)
+      at t i (yes p) (yes r) = v.0 t (pos 0) r (omega arith) ∙ u.2 _ (pos 0) (omega arith) ∙ copies t _ (takes_last h n t long r) (omega arith)
 
 -- ---- a table as a list and in a slice that has its months
 -- two lists of the same months

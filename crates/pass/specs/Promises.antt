@@ -1,5 +1,5 @@
 -- What the code of a pass asks of its arguments, h being half a year, and leaves. Nothing here is promised to a caller of the desk.
-use Rattle.std.specs.Prelude.{◌≡◌, ◌⊎◌, List, ℕ, ◌+◌, ◌*◌, ◌-◌, ◌≤◌, ◌<◌, length, ℤ, ◌-ℤ◌}
+use Rattle.std.specs.Prelude.{◌≡◌, List, ℕ, ◌+◌, ◌*◌, ◌-◌, ◌≤◌, ◌<◌, length, ℤ, ◌-ℤ◌}
 use Rattle.integers.specs.Sizes.{◌within◌}
 use Rattle.integers.specs.Lists.{◌‼◌, AllWithin}
 use Rattle.rows.specs.Table.{Table}
@@ -46,13 +46,6 @@ pub record LessAlong (i step lo hi : ℕ) (r m : List ℤ) : Type 0 where
   pub each : (t : ℕ) → lo ≤ t → t < hi → along i step lo t < length m
   pub left : (t : ℕ) → lo ≤ t → t < hi → (r ‼ t) within largest
   pub right : (t : ℕ) → lo ≤ t → t < hi → (m ‼ along i step lo t) within largest
-
--- such a stretch in a slice of n months, and the months of the slice that it copies, which lie before it or after it
-pub record Copies (i lo hi n : ℕ) : Type 0 where
-  pub order : lo ≤ hi
-  pub inside : hi ≤ n
-  pub from : i + (hi - lo) ≤ n
-  pub apart : (i + (hi - lo) ≤ lo) ⊎ (hi ≤ i)
 
 -- r with values at the months from `first` to below `past`, and in m their 2×12, at the months with h on each side
 pub record Levels (h first past : ℕ) (r m : List ℤ) : Type 0 where

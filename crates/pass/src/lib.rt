@@ -14,7 +14,7 @@ ghost use Rattle.filters.specs.Promises.{largest, FilterableMonths};
 ghost use Rattle.steps.specs.Choices.{plain_by, plain_monthly};
 ghost use Rattle.steps.specs.Steps.{T1, SI1, S1, T2, S2};
 ghost use Rattle.steps.specs.Places.{inner, at_month, nearest_month, widened};
-ghost use Rattle.pass.specs.Promises.{PassSeries, Work, along, LessAlong, Copies, Levels, without_level_at, without_level, OfSI1, OfSI2, Adjustable, PassDone};
+ghost use Rattle.pass.specs.Promises.{PassSeries, Work, along, LessAlong, Levels, without_level_at, without_level, OfSI1, OfSI2, Adjustable, PassDone};
 
 use rows::{SeasonalFilter, Terms};
 
@@ -48,24 +48,14 @@ fn less_level(first: usize, past: usize, r: &[i64], m: &[i64], out: &mut [i64])
     less_from(r, m, past - 7, 0, past - 6, past, out);
 }
 
-// The months from lo to below hi copy those from month i on.
-fn copy_from(i: usize, lo: usize, hi: usize, out: &mut [i64])
-    requires { Copies i lo hi (length out.old) × (length out.old ≤ most_months) }
-    ensures { Filled (pos 0) (λ t. out.old ‼ along i 1 lo t) lo hi out.old out.new }
-{
-    for t in lo..hi {
-        out[t] = out[i + (t - lo)];
-    }
-}
-
 // All months from the inner ones: the first six copy those of a year later, the last six those of a year earlier.
 fn widen(out: &mut [i64])
     requires { (24 ≤ length out.old) × (length out.old ≤ most_months) }
     ensures { out.new ≡ widened 6 (inner 6 out.old) }
 {
     let n = out.len();
-    copy_from(12, 0, 6, out);
-    copy_from(n - 18, n - 6, n, out);
+    out.copy_within(12..18, 0);
+    out.copy_within(n - 18..n - 12, n - 6);
 }
 
 // r, which has the months from `first` to below `past`, less its level, its 2x12 with the ends repeated, in out; m is work space.
