@@ -10,7 +10,6 @@ trend-requires c = let h = c.requires in let e = c.first_seasonal in
 
 pub replaced_si2-requires : goal.replaced_si2-requires
 replaced_si2-requires c = let h = c.requires in let e = c.first_seasonal in (
-  h.0,
   stages.to_t2 (sound4 h.0) (series h.0) e.ensures c.trend.ensures,
   record {
     a_long = omega (arith, h.1, e, c.trend);
