@@ -8,7 +8,7 @@ use lib.IntN.{ℤ}
 use Rattle.integers.specs.Lists.{AllWithin}
 use Rattle.refusals.specs.Limits.{unit, months_of_year}
 use Rattle.series.specs.Operations.{minus, times}
-use Rattle.series.specs.Promises.{Minusable, Figures}
+use Rattle.series.specs.Promises.{Minusable, Figures, Workable}
 use Rattle.series.proofs.Lengths.{length-minus, length-times}
 use Rattle.series.proofs.Largest.{larger, within-minus, within-times}
 use Rattle.extremes.specs.Promises.{Weighable}
@@ -24,19 +24,19 @@ use Rattle.three_passes.specs.Promises.{Correctable, less_extremes, ExtremesCorr
 pub within_grains : {f : List ℤ} → Figures f → AllWithin largest_b1 (times unit f)
 within_grains {f} h = within-times unit f h.small
 
-module _ {start : ℕ} {f s t : List ℤ} (h : Correctable start f s t) where
+module _ {start : ℕ} {f s t : List ℤ} (v : Workable start f) (h : Correctable f s t) where
   abbrev b1 : List ℤ
   b1 = times unit f
 
   b1_small : AllWithin largest_b1 b1
-  b1_small = within_grains h.workable.figures
+  b1_small = within_grains v.figures
 
   pub beside : WithSeasonal f s
-  beside = record { figures = h.workable.figures; long = h.s_long; small = larger h.s_small (omega arith) }
+  beside = record { figures = v.figures; long = h.s_long; small = larger h.s_small (omega arith) }
 
   pub minusable : {a : List ℤ} → a ≡ minus b1 s → Minusable a t
   minusable e = rw e (record {
-    short = omega (arith, length-minus b1 s, length-times unit f, h.workable.figures.short);
+    short = omega (arith, length-minus b1 s, length-times unit f, v.figures.short);
     long = omega (arith, length-minus b1 s, length-times unit f, h.t_long);
     left = larger (within-minus b1_small h.s_small) (omega arith);
     right = larger h.t_small (omega arith);
@@ -57,10 +57,10 @@ module _ {start : ℕ} {f s t : List ℤ} (h : Correctable start f s t) where
     pub weighable : {a c : List ℤ} {w : List ℕ} → length a ≡ length f → length c ≡ length f → length w ≡ length f → Weighable start months_of_year b a c w
     weighable i j k = record {
       calendar = record {
-        least = omega (arith, length-is, h.workable.long);
-        most = omega (arith, length-is, h.workable.figures.short);
-        early = h.workable.early;
-        late = h.workable.late;
+        least = omega (arith, length-is, v.long);
+        most = omega (arith, length-is, v.figures.short);
+        early = v.early;
+        late = v.late;
       };
       small = larger small (omega arith);
       sizes = i ∙ sym length-is;
@@ -70,7 +70,7 @@ module _ {start : ℕ} {f s t : List ℤ} (h : Correctable start f s t) where
 
     pub weighted : {w : List ℕ} → w ≡ weights_of start months_of_year b → WithWeights f b w
     weighted i = rw i (record {
-      figures = h.workable.figures;
+      figures = v.figures;
       irregular_long = length-is;
       weights_long = length-weights start months_of_year b ∙ length-is;
       small = larger small (omega arith);

@@ -40,9 +40,8 @@ use Rattle.three_passes.proofs.Correcting.{within_grains}
 -- ---- passes B and C
 module _ {start : ℕ} {f : List ℤ} (h : Workable start f) where
   -- the seasonal and the trend of a pass on a series that is no larger than C1
-  correctable : {c : Choices} → Sound c → {x s t : List ℤ} → length x ≡ length f → AllWithin largest_c1 x → s ≡ S2 c x → t ≡ T2 c x → Correctable start f s t
+  correctable : {c : Choices} → Sound c → {x s t : List ℤ} → length x ≡ length f → AllWithin largest_c1 x → s ≡ S2 c x → t ≡ T2 c x → Correctable f s t
   correctable {c} ok {x} l k e i = rw (e, i) (record {
-    workable = h;
     s_long = length-s2 c x ∙ l;
     t_long = length-t2 c x ∙ l;
     s_small = pass.s2 ok k largest_c7 (omega arith);
@@ -60,7 +59,7 @@ module _ {start : ℕ} {f : List ℤ} (h : Workable start f) where
       late = h.late;
     })
 
-    pub correctable_b : {s t : List ℤ} → PassBDone start x t s → Correctable start f s t
+    pub correctable_b : {s t : List ℤ} → PassBDone start x t s → Correctable f s t
     correctable_b d = correctable (monthly-sound _ _ _) (ap length e ∙ length-times unit f) (rw e (larger (within_grains h.figures) (omega arith))) d.seasonal d.trend
 
     pub to_c1 : {s t o i : List ℤ} {w : List ℕ} → PassBDone start x t s → ExtremesCorrected start (times unit f) s t o i w → CorrectedTo (C1 start f) (B17 start f) o w
@@ -78,7 +77,7 @@ module _ {start : ℕ} {f : List ℤ} (h : Workable start f) where
     pub series-c : PassSeries 6 x
     series-c = record { long = omega (arith, h.long, length-c); short = omega (arith, h.figures.short, length-c); small = larger small_c (omega arith) }
 
-    pub correctable_c : {s t : List ℤ} → PassDone ThreeByFive x t s → Correctable start f s t
+    pub correctable_c : {s t : List ℤ} → PassDone ThreeByFive x t s → Correctable f s t
     correctable_c d = correctable plain_sound length-c small_c d.seasonal d.trend
 
     pub to_d1 : {s t o i : List ℤ} {w : List ℕ} → PassDone ThreeByFive x t s → ExtremesCorrected start (times unit f) s t o i w

@@ -3,7 +3,7 @@ use Rattle.std.specs.Prelude.{◌≡◌, List, ℕ, ◌≤◌, length, ℤ}
 use Rattle.integers.specs.Lists.{AllWithin}
 use Rattle.refusals.specs.Limits.{least_months, months_of_year}
 use Rattle.series.specs.Operations.{minus}
-use Rattle.series.specs.Promises.{Figures, Workable}
+use Rattle.series.specs.Promises.{Figures}
 use Rattle.rows.specs.declared.SeasonalFilter.{SeasonalFilter}
 use Rattle.rows.specs.declared.Terms.{Terms}
 use Rattle.rows.specs.FilterTables.{table_henderson}
@@ -15,8 +15,7 @@ use Rattle.tables.specs.Bounds.{largest_c7, largest_c10, largest_d1}
 use Rattle.scratch.specs.Scratch.{zeroed}
 
 -- the seasonal and the trend that a pass leaves to find extreme months by: B10 and B7, or C10 and C7
-pub record Correctable (start : ℕ) (f s t : List ℤ) : Type 0 where
-  pub workable : Workable start f
+pub record Correctable (f s t : List ℤ) : Type 0 where
   pub s_long : length s ≡ length f
   pub t_long : length t ≡ length f
   pub s_small : AllWithin largest_c10 s

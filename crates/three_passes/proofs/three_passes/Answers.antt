@@ -27,7 +27,7 @@ module _ (n : ℕ) (scratch x : List ℤ) (room : scratch_for n ≤ length scrat
 
 pub corrected_series-requires : goal.corrected_series-requires
 corrected_series-requires c = let s = c.requires in
-    (s.0, s.1, sym (front_long (length c.args.figures.now) c.args.scratch.now (omega (arith, s.3))), s.2)
+    (s.1, sym (front_long (length c.args.figures.now) c.args.scratch.now (omega (arith, s.3))), s.2)
 
 pub chosen_filter-chosen-requires : goal.chosen_filter-chosen-requires
 chosen_filter-chosen-requires c = choosable c.requires.0 c.corrected_series.ensures.choice_tables

@@ -1,13 +1,12 @@
--- `three_passes::corrected_series` meets its contract: pass B, then pass C.
+-- `three_passes::Checked::corrected_series` meets its contract: pass B, then pass C.
 use native.Mathlib.Omega.{arith}
-use Rattle.three_passes.proofs.corrected_series.Goals as goal
+use Rattle.three_passes.proofs.Checked.corrected_series.Goals as goal
 
 pub to_d1-requires : goal.to_d1-requires
 to_d1-requires c = let s = c.requires in let e = c.to_c1 in (
-  s.0,
-  record { a_long = omega (arith, s.1, e); b_long = omega (arith, s.1, e); t_long = omega (arith, s.1, e); s_long = omega (arith, s.1, e) },
+  record { a_long = omega (arith, s.0, e); b_long = omega (arith, s.0, e); t_long = omega (arith, s.0, e); s_long = omega (arith, s.0, e) },
   e.ensures.series_is,
-  omega (arith, s.3, e),
+  omega (arith, s.2, e),
 )
 
 pub returns : goal.returns
