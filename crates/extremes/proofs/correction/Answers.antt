@@ -3,12 +3,11 @@ use Prim.Native.Nat.{◌*◌, ◌-◌}
 use mathlib.Core.Path.{ap₂, ◌∙◌}
 use native.Mathlib.Omega.{arith}
 use lib.IntN.{ℤ, pos, nat_abs, ◌*ℤ◌}
-use lib.Signed.{lt_z_yes}
 use mir.Syntax.{w64}
 use mir.Val.{to_z, of_z}
 use Rattle.integers.specs.Rounding.{to_grain}
-use Rattle.integers.proofs.SizeLaws.{by-abs, w_lit}
-use Rattle.integers.proofs.Signed64.{Reads, i_arg, i_call, i*, i_kept, rounds, kept}
+use Rattle.integers.proofs.SizeLaws.{by-abs}
+use Rattle.integers.proofs.Signed64.{Reads, i_arg, i_call, i*, i_kept, kept}
 use Rattle.refusals.specs.Limits.{full_weight}
 use Rattle.extremes.specs.Weighing.{correction_of}
 use Rattle.extremes.specs.Promises.{largest_irregular}
@@ -22,9 +21,6 @@ After-from = lts.After-from tie.the-claims reads.Pre reads.Post
 
 product : (c : After-from) → Reads (to_z w64 (of_z w64 c.args.irregular) *ℤ to_z w64 (of_z w64 c.from.result)) (c.args.irregular *ℤ pos (full_weight - c.args.weight)) (largest_irregular * full_weight)
 product c = i* (i_arg c.ranges.irregular c.requires.0) (i_call {B = full_weight} c.from.type_inv c.from.ensures (by-abs (omega arith)))
-
-pub to_grain-requires : goal.to_grain-requires
-to_grain-requires c = rounds (i_kept (product c.before) tt) (i_call c.from-2.type_inv c.from-2.ensures (w_lit full_weight)) (omega arith) (omega arith) (lt_z_yes tt)
 
 pub returns : goal.returns
 unfolding correction_of

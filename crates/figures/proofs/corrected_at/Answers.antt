@@ -10,9 +10,6 @@ use Rattle.extremes.proofs.WeighingLaws.{correction_within}
 use Rattle.figures.proofs.Loops.{grains_within}
 use Rattle.figures.proofs.corrected_at.Goals as goal
 
-pub correction-requires : goal.correction-requires
-correction-requires c = (i_within (i_in (c.requires.0.small.at c.args.t) tt), c.requires.0.light c.args.t c.requires.1)
-
 pub returns : goal.returns
 returns c = (i_kept (i- (i_call c.grains_at.type_inv c.grains_at.ensures (grains_within c.requires.0.figures c.args.t)) (i_call c.correction.type_inv c.correction.ensures (correction_within _ _ (i_within (i_in (c.requires.0.small.at c.args.t) tt))))) tt).eq
     ∙ ap (λ (z : ℤ). pos unit *ℤ (c.args.figures.now ‼ c.args.t) -ℤ correction_of z (get_or c.args.weights.now c.args.t 0)) (i_in (c.requires.0.small.at c.args.t) tt).eq

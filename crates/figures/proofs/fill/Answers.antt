@@ -18,11 +18,5 @@ more P l t v z h e p below k m = go (ℕ_discrete k t)
     go (yes q) = rw q (rw (get_or-set_same l t v (pos 0) h, e) p)
     go (no q) = rw (get_or-set_other l t k v (pos 0) q) (below k (omega arith))
 
-pub loop-t-init : goal.loop-t-init
-loop-t-init g c = λ k l. absurd (omega arith)
-
 pub loop-t-preserved : goal.loop-t-preserved
 loop-t-preserved g c = more (λ k z. goal.F-post g c.args.number k z) c.loop-t.out c.loop-t.t _ c.number.result (omega arith) (kept c.number.type_inv refl) c.number.ensures c.loop-t.invariant
-
-pub returns : goal.returns
-returns g c = (c.loop-t.auto.out, λ t l. c.loop-t.invariant t (omega arith))
