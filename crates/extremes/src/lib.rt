@@ -1,4 +1,5 @@
-// METHOD 5: spreads, weights and corrections. This file has what other crates call.
+// METHOD 5: spreads, weights and corrections. This file has what other crates call. `as` stands where a number is known to fit: std has no `From` between
+// u64, i64 and usize, nor to a smaller type, and `try_from` would have a failure to take apart that cannot come.
 #![tactic(auto)]
 
 ghost use Rattle.std.specs.Prelude.{◌≡◌, ◌≤◌};
