@@ -10,7 +10,7 @@ use Rattle.desk_checks.specs.FileChecks.{years_check, contents_checks, file_chec
 use Rattle.desk_forms.specs.Forms.{front_of, year_of, meaning_of}
 use Rattle.desk_checks.specs.declared.Lent.{Lent}
 use Rattle.desk_checks.specs.declared.Lent.TheVariants.{Slices, Bytes}
-use Rattle.desk_checks.specs.declared.Sizes.{Sizes}
+use Rattle.desk_forms.specs.declared.sized.SizedFile.{SizedFile}
 
 -- what is lent to be filled is too short for n months: slices by their entries, or an output, by its bytes, for a file in a form
 abbrev pub too_short : Lent → ℕ → Bool
@@ -29,8 +29,8 @@ pub record FileFits (form : Form) (given : ℕ) (short : Bool) (file : List ℕ)
   pub begins : start ≡ start_in file
   pub dated : year ≡ year_of form given file
 
-abbrev pub FileSays : Form → ℕ → Bool → List ℕ → Result Sizes Refusal → Type 0
-FileSays form given short file (Ok s) = FileFits form given short file s.count s.start s.year
+abbrev pub FileSays : Form → ℕ → Bool → List ℕ → Result SizedFile Refusal → Type 0
+FileSays form given short file (Ok s) = FileFits form given short file s.count s.start s.year × (s.form ≡ form) × (s.bytes.now ≡ file)
 FileSays form given short file (Err q) = Stopped q (form_checks form given short file)
 
 -- the first seven of them, which look at the sizes alone
@@ -40,8 +40,8 @@ pub record SizesFit (form : Form) (given : ℕ) (file : List ℕ) (n start year 
   pub begins : start ≡ start_in file
   pub dated : year ≡ year_of form given file
 
-abbrev pub SizesSay : Form → ℕ → List ℕ → Result Sizes Refusal → Type 0
-SizesSay form given file (Ok s) = SizesFit form given file s.count s.start s.year
+abbrev pub SizesSay : Form → ℕ → List ℕ → Result SizedFile Refusal → Type 0
+SizesSay form given file (Ok s) = SizesFit form given file s.count s.start s.year × (s.form ≡ form) × (s.bytes.now ≡ file)
 SizesSay form given file (Err q) = (short : Bool) → Stopped q (form_checks form given short file)
 
 -- rows 5 and 10 of what a file means

@@ -10,14 +10,6 @@ ghost use Rattle.desk_checks.specs.Checked.{ContentsSay, FileSays, SeriesSays, S
 use desk_forms::{DatedSeries, Form, SizedFile};
 use refusals::Refusal;
 
-// What the checks of a file find: its months, start month and first year.
-#[derive(Clone, Copy, PartialEq, Eq, Debug)]
-pub struct Sizes {
-    pub count: usize,
-    pub start: u8,
-    pub year: u16,
-}
-
 // What is lent to be filled: slices for figures and weights, by their entries, or an output, by its bytes, for a file in a form.
 #[derive(Clone, Copy, PartialEq, Eq, Debug)]
 pub enum Lent {
@@ -26,7 +18,7 @@ pub enum Lent {
 }
 
 // Rows 7, 1, 2, 3, 8, 11 and 9, of the sizes of a file.
-fn check_sizes(file: &[u8], form: Form, given: u16) -> Result<Sizes, Refusal>
+fn check_sizes<'a>(file: &'a [u8], form: Form, given: u16) -> Result<SizedFile<'a>, Refusal>
     ensures { SizesSay form given file.now result }
 {
     if file.len() < form.front() {
@@ -46,7 +38,13 @@ fn check_sizes(file: &[u8], form: Form, given: u16) -> Result<Sizes, Refusal>
     if file.len() != form.length(count) {
         return Err(Refusal::BadFileLength);
     }
-    Ok(Sizes { count, start, year })
+    Ok(SizedFile {
+        bytes: file,
+        form,
+        count,
+        start,
+        year,
+    })
 }
 
 // Row 4.
@@ -74,21 +72,20 @@ fn check_contents(file: SizedFile) -> Result<(), Refusal>
 }
 
 // A file that is read or moved; `given` is its first year where the form has none.
-pub fn check_file(file: &[u8], form: Form, given: u16, lent: Lent) -> Result<Sizes, Refusal>
+pub fn check_file<'a>(
+    file: &'a [u8],
+    form: Form,
+    given: u16,
+    lent: Lent,
+) -> Result<SizedFile<'a>, Refusal>
     ensures { FileSays form given (too_short lent (count_in file.now)) file.now result }
 {
-    let sizes = check_sizes(file, form, given)?;
-    if too_short(lent, sizes.count) {
+    let sized = check_sizes(file, form, given)?;
+    if too_short(lent, sized.count) {
         return Err(Refusal::WrongLength);
     }
-    let sized = SizedFile {
-        bytes: file,
-        form,
-        count: sizes.count,
-        start: sizes.start,
-    };
     check_contents(sized)?;
-    Ok(sizes)
+    Ok(sized)
 }
 
 // A series to be written in a form, into an output of so many bytes.

@@ -35,11 +35,11 @@ pub fn read_columns(
 ) -> Result<ColumnsSeries, Refusal>
     ensures { ReadColumnsDone file.now figures.old weights.old result figures.new weights.new }
 {
-    let sizes = desk_either::read(file, Form::Columns, ITS_OWN, figures, weights)?;
+    let sized = desk_either::read(file, Form::Columns, ITS_OWN, figures, weights)?;
     Ok(ColumnsSeries {
-        count: sizes.count,
-        start: sizes.start,
-        year: sizes.year,
+        count: sized.count,
+        start: sized.start,
+        year: sized.year,
     })
 }
 

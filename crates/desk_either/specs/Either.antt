@@ -6,7 +6,7 @@ use Rattle.refusals.specs.Promises.{Before, Stopped}
 use Rattle.desk_forms.specs.declared.Form.{Form}
 use Rattle.desk_forms.specs.Header.{SeriesWithWeights, count_in, length_for}
 use Rattle.desk_forms.specs.Forms.{front_of, bytes_in, meaning_of}
-use Rattle.desk_checks.specs.declared.Sizes.{Sizes}
+use Rattle.desk_forms.specs.declared.sized.SizedFile.{SizedFile}
 use Rattle.desk_checks.specs.declared.Lent.TheVariants.{Slices, Bytes}
 use Rattle.desk_checks.specs.Checked.{too_short, form_checks, FileFits, written_checks}
 
@@ -21,7 +21,7 @@ pub record ReadStops (form : Form) (given : ℕ) (file : List ℕ) (figures₀ :
   pub figures_left : figures ≡ figures₀
   pub weights_left : weights ≡ weights₀
 
-abbrev pub ReadEither : Form → ℕ → List ℕ → List ℤ → List ℕ → Result Sizes Refusal → List ℤ → List ℕ → Type 0
+abbrev pub ReadEither : Form → ℕ → List ℕ → List ℤ → List ℕ → Result SizedFile Refusal → List ℤ → List ℕ → Type 0
 ReadEither form given file figures₀ weights₀ (Ok s) figures weights = ReadFits form given file figures₀ weights₀ s.count s.start s.year figures weights
 ReadEither form given file figures₀ weights₀ (Err q) figures weights = ReadStops form given file figures₀ weights₀ q figures weights
 
@@ -47,6 +47,6 @@ pub record MoveStops (form : Form) (given : ℕ) (other : Form) (file out₀ : L
   pub stops : Stopped q (form_checks form given (too_short (Bytes other (length out₀)) (count_in file)) file)
   pub out_left : out ≡ out₀
 
-abbrev pub MoveEither : Form → ℕ → Form → List ℕ → List ℕ → Result Sizes Refusal → List ℕ → Type 0
+abbrev pub MoveEither : Form → ℕ → Form → List ℕ → List ℕ → Result SizedFile Refusal → List ℕ → Type 0
 MoveEither form given other file out₀ (Ok s) out = MoveFits form given other file out₀ s.count s.start s.year out
 MoveEither form given other file out₀ (Err q) out = MoveStops form given other file out₀ q out

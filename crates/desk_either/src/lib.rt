@@ -4,33 +4,27 @@
 ghost use Rattle.desk_forms.specs.Header.{series};
 ghost use Rattle.desk_either.specs.Either.{MoveEither, ReadEither, WriteEither};
 
-use desk_checks::{Lent, Sizes};
+use desk_checks::Lent;
 use desk_forms::{DatedSeries, Form, SizedFile};
 use refusals::Refusal;
 
 // Reads a file; `given` is its first year where the form has none.
-pub fn read(
-    file: &[u8],
+pub fn read<'a>(
+    file: &'a [u8],
     form: Form,
     given: u16,
     figures: &mut [i32],
     weights: &mut [u16],
-) -> Result<Sizes, Refusal>
+) -> Result<SizedFile<'a>, Refusal>
     ensures { ReadEither form given file.now figures.old weights.old result figures.new weights.new }
 {
     let lent = Lent::Slices {
         figures: figures.len(),
         weights: weights.len(),
     };
-    let sizes = desk_checks::check_file(file, form, given, lent)?;
-    let sized = SizedFile {
-        bytes: file,
-        form,
-        count: sizes.count,
-        start: sizes.start,
-    };
+    let sized = desk_checks::check_file(file, form, given, lent)?;
     sized.fill(figures, weights);
-    Ok(sizes)
+    Ok(sized)
 }
 
 // Writes a series.
@@ -43,23 +37,17 @@ pub fn write(s: DatedSeries, form: Form, out: &mut [u8]) -> Result<(), Refusal>
 }
 
 // Moves a file into another form; `given` is its first year where its own has none.
-pub fn move_file(
-    file: &[u8],
+pub fn move_file<'a>(
+    file: &'a [u8],
     form: Form,
     given: u16,
     other: Form,
     out: &mut [u8],
-) -> Result<Sizes, Refusal>
+) -> Result<SizedFile<'a>, Refusal>
     ensures { MoveEither form given other file.now out.old result out.new }
 {
     let lent = Lent::Bytes(other, out.len());
-    let sizes = desk_checks::check_file(file, form, given, lent)?;
-    let sized = SizedFile {
-        bytes: file,
-        form,
-        count: sizes.count,
-        start: sizes.start,
-    };
-    sized.move_into(other, sizes.year, out);
-    Ok(sizes)
+    let sized = desk_checks::check_file(file, form, given, lent)?;
+    sized.move_into(other, out);
+    Ok(sized)
 }

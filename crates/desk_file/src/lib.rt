@@ -22,10 +22,10 @@ const ANY_YEAR: u16 = refusals::EARLIEST_YEAR as u16;
 pub fn read(file: &[u8], figures: &mut [i32], weights: &mut [u16]) -> Result<Series, Refusal>
     ensures { ReadDone file.now figures.old weights.old result figures.new weights.new }
 {
-    let sizes = desk_either::read(file, Form::Plain, ANY_YEAR, figures, weights)?;
+    let sized = desk_either::read(file, Form::Plain, ANY_YEAR, figures, weights)?;
     Ok(Series {
-        count: sizes.count,
-        start: sizes.start,
+        count: sized.count,
+        start: sized.start,
     })
 }
 

@@ -4,13 +4,14 @@ ghost use Rattle.desk_forms.specs.Forms.{Sized};
 use crate::Form;
 use crate::dated::put_front;
 
-// So many months from a start month.
+// So many months from a start month, and the first year: its own, or the one that is given where its form has none.
 #[derive(Clone, Copy)]
 pub struct SizedFile<'a> {
     pub bytes: &'a [u8],
     pub form: Form,
     pub count: usize,
     pub start: u8,
+    pub year: u16,
     ghost sized: { Sized form bytes.now count start },
 }
 
@@ -48,15 +49,15 @@ impl<'a> SizedFile<'a> {
     }
 
     // Writes the file of the same series in another form; the rest of the output stays.
-    pub fn move_into(self, other: Form, year: u16, out: &mut [u8])
+    pub fn move_into(self, other: Form, out: &mut [u8])
         requires { length_for (front_of other) self.count ≤ length out.old }
-        ensures { out.new ≡ bytes_in other year (meaning_of self.entry.form self.entry.bytes.now)
+        ensures { out.new ≡ bytes_in other self.entry.year (meaning_of self.entry.form self.entry.bytes.now)
             ++ drop (length_for (front_of other) self.entry.count) out.old }
     {
         let n = self.count;
         let from = self.form.chart(n, self.start);
         let to = other.chart(n, self.start);
-        put_front(out, other, n, self.start, year);
+        put_front(out, other, n, self.start, self.year);
         desk_arrays::move_array::<i32>(self.bytes, self.form.front(), from, out, other.front(), to);
         desk_arrays::move_array::<u16>(
             self.bytes,

@@ -1,6 +1,6 @@
 -- `desk_checks::check_sizes` meets its contract: at each return, the checks before it did not apply.
 use Prim.Native.Nat.{ℕ}
-use mathlib.Core.Path.{◌≡◌, sym}
+use mathlib.Core.Path.{◌≡◌, refl, sym, ◌∙◌}
 use mathlib.Core.List.{List}
 use native.Mathlib.Omega.{arith}
 use Rattle.std.proofs.Common.{rules}
@@ -42,12 +42,30 @@ returns-then-file-length c =
     let f = c.args.file.now in
     λ short. rw (counted f c.number_at-count.ensures.value, start_byte f, period_byte f, ← c.year-year.ensures) (record { at = 6; before = search rules; here = search rules })
 
+pub invariant_of-result : goal.invariant_of-result
+invariant_of-result c =
+    let f = c.args.file.now in
+    let h = c.in_ok-span.ensures in
+    record {
+      sized = record {
+        count = sym (counted f c.number_at-count.ensures.value);
+        begins = sym (start_byte f);
+        least = h.least;
+        most = h.most;
+        inside = h.inside;
+        size = c.if-file-length.false ∙ c.length.ensures;
+      };
+    }
+
 pub returns : goal.returns
 returns c =
-    let f = c.args.file.now in
-    record {
-      passed = λ short. rw (counted f c.number_at-count.ensures.value, start_byte f, period_byte f, ← c.year-year.ensures) (search rules);
-      count = sym (counted f c.number_at-count.ensures.value);
-      begins = sym (start_byte f);
-      dated = c.year-year.ensures;
-    }
+    let f = c.args.file.now in (
+      record {
+        passed = λ short. rw (counted f c.number_at-count.ensures.value, start_byte f, period_byte f, ← c.year-year.ensures) (search rules);
+        count = sym (counted f c.number_at-count.ensures.value);
+        begins = sym (start_byte f);
+        dated = c.year-year.ensures;
+      },
+      refl,
+      refl,
+    )

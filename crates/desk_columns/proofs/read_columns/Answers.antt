@@ -3,8 +3,8 @@ use Rattle.std.proofs.lemmas.Result.{err_from_is_err_and}
 use Rattle.desk_columns.proofs.Answers.{read_refused, read_done}
 use Rattle.desk_columns.proofs.read_columns.Goals as goal
 
-pub returns-in_err-sizes : goal.returns-in_err-sizes
-returns-in_err-sizes c = let p = err_from_is_err_and c.from_residual.result c.from_residual.ensures.1 in rw (p.1, p.2) (read_refused c.in_err-sizes.ensures)
+pub returns-in_err-sized : goal.returns-in_err-sized
+returns-in_err-sized c = let p = err_from_is_err_and c.from_residual.result c.from_residual.ensures.1 in rw (p.1, p.2) (read_refused c.in_err-sized.ensures)
 
 pub returns : goal.returns
-returns c = read_done c.in_ok-sizes.ensures
+returns c = read_done c.in_ok-sized.ensures

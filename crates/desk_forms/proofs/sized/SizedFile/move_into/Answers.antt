@@ -19,4 +19,4 @@ returns c =
     let m = c.chart-to.ensures in
     c.move_array-2.ensures.entries
     ∙ rw (c.move_array.ensures.entries, c.put_front.ensures, c.front.ensures.0, c.weights.ensures, c.front-2.ensures.0, c.weights-2.ensures, k.0, k.1, k.2, m.0, m.1, figures_are, weights_are, form_figures z, form-weights z)
-    (rw (begins, months.0) at (put_parts c.args.other c.args.year series (rw begins (form_starts c.args.other a.start z.inside)) (months.1 ∙ sym months.0) c.args.out.now (rw months.0 c.requires)))
+    (rw (begins, months.0) at (put_parts c.args.other a.year series (rw begins (form_starts c.args.other a.start z.inside)) (months.1 ∙ sym months.0) c.args.out.now (rw months.0 c.requires)))
