@@ -26,7 +26,8 @@ fn less_at(r: &[i64], m: &[i64], t: usize, i: usize) -> i64
     r[t] - m[i]
 }
 
-// r less m, at the months from lo to below hi: m at month i for the first, and `step` months on for each further one.
+// r less m, at the months from lo to below hi: m at month i for the first, and `step` months on for each further one. (The stride is 1, or 0 at an
+// end: for two functions the loop would stand twice.)
 fn less_from(r: &[i64], m: &[i64], i: usize, step: usize, lo: usize, hi: usize, out: &mut [i64])
     requires { LessAlong i step lo hi r.now m.now × (length out.old ≡ length r.now) }
     ensures { Filled (pos 0) (λ t. (r.now ‼ t) -ℤ (m.now ‼ along i step lo t)) lo hi
@@ -67,6 +68,7 @@ pub fn without_level(first: usize, past: usize, r: &[i64], m: &mut [i64], out: &
     less_level(first, past, r, m, out);
 }
 
+// That x is a series that a pass takes stands in four contracts: a type for this one slice would be made anew at each call from passes B, C and D.
 // Steps 1 and 2: T1 and SI1 of x, at their own months from 6 to n - 7; the six months at each end are none of theirs, and stay as they were.
 pub fn first_si(x: &[i64], t1: &mut [i64], si: &mut [i64])
     requires { PassSeries 6 x.now × (length t1.old ≡ length x.now) × (length si.old ≡ length x.now) }

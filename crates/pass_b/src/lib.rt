@@ -17,7 +17,8 @@ ghost use Rattle.pass_b.specs.Promises.{PassBSeries, PassBSlices, Weighs, SI2Rep
 
 use rows::{SeasonalFilter, Terms};
 
-// A series that pass B takes, from its start month.
+// A series that pass B takes, from its start month. (The work slices stay parameters: two fields of a lent struct can't be lent to one call, and each
+// function would take all five out by a line of their own, and promise that they are still the same.)
 #[derive(Clone, Copy)]
 struct Series<'a> {
     x: &'a [i64],
