@@ -1,7 +1,6 @@
 -- Laws of the checks of cells that follow one another.
 use Prim.Native.Nat.{ℕ, zero, suc, ◌+◌, ◌<◌}
-use mathlib.Core.Path.{◌≡◌, sym, subst}
-use native.Mathlib.Decide.{ℕ_discrete}
+use mathlib.Core.Path.{◌≡◌, subst}
 use mathlib.Core.List.{List}
 use native.Mathlib.Omega.{arith}
 use lib.ListN.{length}
@@ -12,18 +11,7 @@ use Rattle.sheet_cells.specs.CellChecks.{cell_checks}
 use Rattle.members_sheet.specs.ReadSheet.{cells_from}
 use Rattle.members_sheet.specs.AllAccepted.{AllAccepted}
 
--- ---- as the loop goes
-pub taken_none : (sheet : List ℕ) → AllAccepted sheet 0
-taken_none sheet = record { each = λ t h. absurd (omega arith) }
-
-pub taken_more : {sheet : List ℕ} {t : ℕ} → AllAccepted sheet t → Before 3 (cell_checks sheet t) → AllAccepted sheet (t + 1)
-taken_more {sheet} {t} a here = record { each = λ k h. at k h (ℕ_discrete k t) }
-  where
-    at : (k : ℕ) → k < t + 1 → Dec (k ≡ t) → Before 3 (cell_checks sheet k)
-    at k h (yes e) = subst (λ (m : ℕ). Before 3 (cell_checks sheet m)) (sym e) here
-    at k h (no e) = a.each k (omega arith)
-
--- ---- in the list: the first bad cell is behind i cells to which no check applies, or there is none
+-- the first bad cell is behind i cells to which no check applies, or there is none
 module _ (sheet : List ℕ) where
   pub stopped_cell : {q : Refusal} (i t k : ℕ) → i < k → ((j : ℕ) → j < i → Before 3 (cell_checks sheet (t + j))) → Stopped q (cell_checks sheet (t + i))
       → Stopped q (cells_from sheet t k)

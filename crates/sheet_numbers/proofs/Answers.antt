@@ -9,13 +9,13 @@ use Rattle.refusals.specs.Sheet.{row}
 use Rattle.refusals.proofs.RowNumbers.{unused_numbers}
 use Rattle.refusals.specs.Numbers.{number_of, place_of, value_of}
 use Rattle.doubles.specs.Doubles.{positive_zero}
-use Rattle.members_sheet.specs.declared.SheetReading.{SheetReading}
-use Rattle.members_sheet.specs.declared.SheetReading.TheVariants.{Series, Refused}
+use Rattle.std.specs.Prelude.{Result, Ok, Err}
+use Rattle.members_sheet.specs.declared.SheetSeries.{SheetSeries}
 use Rattle.members_sheet.specs.ReadSheet.{SheetAccepted, sheet_says, SheetDone}
 use Rattle.sheet_numbers.specs.SheetNumbers.{total_told, SheetNumbers}
 
-module _ {sheet : List ℕ} {f₀ f : List ℤ} {r : SheetReading} (p : SheetDone sheet f₀ r f) where
-  pub has-series : {n m : ℕ} {v : Float} → r ≡ Series n m v → SheetNumbers sheet f₀ 0 n m v 0 f
+module _ {sheet : List ℕ} {f₀ f : List ℤ} {r : Result SheetSeries Refusal} (p : SheetDone sheet f₀ r f) where
+  pub has-series : {series : SheetSeries} → r ≡ Ok series → SheetNumbers sheet f₀ 0 series.count series.start series.total 0 f
   has-series e = let s = ap sheet_says (sym e) ∙ p.answer in
       record {
         number_is = ap number_of s;
@@ -27,7 +27,7 @@ module _ {sheet : List ℕ} {f₀ f : List ℤ} {r : SheetReading} (p : SheetDon
         exact = λ _. p.exact _ (ap sheet_says e);
       }
 
-  pub not-read : {q : Refusal} {k t : ℕ} {v : Float} → r ≡ Refused q → k ≡ (row q).number → v ≡ positive_zero → t ≡ (row q).place → SheetNumbers sheet f₀ k 0 0 v t f
+  pub not-read : {q : Refusal} {k t : ℕ} {v : Float} → r ≡ Err q → k ≡ (row q).number → v ≡ positive_zero → t ≡ (row q).place → SheetNumbers sheet f₀ k 0 0 v t f
   not-read {q} e i z j = let s = ap sheet_says (sym e) ∙ p.answer in
       record {
         number_is = i ∙ ap number_of s;

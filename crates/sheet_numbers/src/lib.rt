@@ -4,8 +4,7 @@
 
 ghost use Rattle.sheet_numbers.specs.SheetNumbers.{SheetNumbers};
 
-use members_sheet::SheetReading;
-
+// Numbers and lent places are what C takes and gives: vepsjalm_read_sheet.
 pub fn read_sheet(
     sheet: &[u8],
     figures: &mut [i32],
@@ -18,18 +17,14 @@ pub fn read_sheet(
         result count.new start.new total.new place.new figures.new }
 {
     match members_sheet::read_sheet(sheet, figures) {
-        SheetReading::Series {
-            count: n,
-            start: month,
-            total: revision,
-        } => {
-            *count = n;
-            *start = month;
-            *total = revision;
+        Ok(series) => {
+            *count = series.count;
+            *start = series.start;
+            *total = series.total;
             *place = 0;
             0
         }
-        SheetReading::Refused(refusal) => {
+        Err(refusal) => {
             *count = 0;
             *start = 0;
             *total = 0.0;

@@ -3,8 +3,8 @@ use Rattle.doubles.proofs.Exact.{zero_bits}
 use Rattle.sheet_numbers.proofs.Answers.{has-series, not-read}
 use Rattle.sheet_numbers.proofs.read_sheet.Goals as goal
 
-pub returns-in-Series : goal.returns-in-Series
-returns-in-Series c = has-series c.read_sheet.ensures c.in-Series.is
+pub returns-in-Ok : goal.returns-in-Ok
+returns-in-Ok c = has-series c.read_sheet.ensures c.in-Ok.is
 
-pub returns-in-Refused : goal.returns-in-Refused
-returns-in-Refused c = not-read c.read_sheet.ensures c.in-Refused.is c.number.ensures zero_bits c.place.ensures
+pub returns-in-Err : goal.returns-in-Err
+returns-in-Err c = not-read c.read_sheet.ensures c.in-Err.is c.number.ensures zero_bits c.place.ensures
