@@ -40,16 +40,6 @@ pub record Stretch (F : Table) (first past b a lo hi : ℕ) : Type 0 where
   pub no_more_after : (a ≡ F.side) ⊎ (past ≤ lo + a * F.step + F.step)
 
 module _ {F : Table} {first past b a lo hi : ℕ} (s : Stretch F first past b a lo hi) where
-  pub stretch_serves : {x : List ℤ} → FilterableMonths first past x → Serves F b a lo hi x
-  stretch_serves q = record {
-    order = s.order;
-    few_before = s.few_before;
-    few_after = s.few_after;
-    before = omega (arith, s.before);
-    after = omega (arith, s.after, q.inside);
-    small = λ i l m. q.small i (omega (arith, s.before)) (omega (arith, s.after));
-  }
-
   stretch_earlier : 1 ≤ F.step → (t : ℕ) → lo ≤ t → t < hi → b ≡ earlier F first t
   unfolding earlier
   stretch_earlier p t l m = count_is F.step F.side (t - first) b p s.few_before (omega (arith, s.before))
