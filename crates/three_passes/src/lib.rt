@@ -11,7 +11,7 @@ ghost use Rattle.three_passes.specs.Promises.{Correctable, WorkSlices, WeightSli
 
 use rows::{SeasonalFilter, Terms};
 
-// Figures that were checked, and their start month.
+// Figures that were checked, and their start month. (The work slices stay parameters, for the reason that pass B gives.)
 #[derive(Clone, Copy)]
 struct Checked<'a> {
     figures: &'a [i32],
