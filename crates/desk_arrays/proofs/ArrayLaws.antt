@@ -3,6 +3,7 @@ use Prim.Native.Nat.{ℕ, ◌+◌, ◌*◌, ◌^◌, min, ◌<◌, ◌≤◌}
 use mathlib.Core.Path.{◌≡◌, refl, sym, ap, ◌∙◌}
 use mathlib.Core.Bool.{Bool, true, false, not}
 use mathlib.Core.Logic.{⊎_elim}
+use borrow.Author.Tests.{lt-ltb, le-ltb}
 use mathlib.Core.List.{List, ◌++◌}
 use native.Mathlib.Nat.{mul-suc, mul-le-mul_left}
 use native.Mathlib.Decide.{dec_le, ℕ_discrete}
@@ -10,12 +11,13 @@ use native.Mathlib.Omega.{arith}
 use lib.IntN.{ℤ}
 use lib.ListN.{length, get_or, set, drop, length-set}
 use lib.Seq.{sets, length-sets, get_or-set_same, get_or-set_other}
-use Rattle.std.specs.Prelude.{Option, Some, None, IfSome, unwrap_or}
+use Rattle.std.specs.Prelude.{ltb}
+use Rattle.std.specs.Bool.{then_some}
 use Rattle.integers.specs.Lists.{tab}
 use Rattle.integers.specs.Filling.{Filled}
 use Rattle.integers.proofs.FillingLaws.{length-tab, at-tab, filled_front}
 use Rattle.refusals.specs.First.{first_failing}
-use Rattle.refusals.proofs.FirstLaws.{first_here, first-none}
+use Rattle.refusals.proofs.FirstLaws.{NoneBefore, first_here, first-none}
 use Rattle.little_endian.specs.Bytes.{AreBytes, bytes_of, number_at, word, signed, array}
 use Rattle.little_endian.proofs.NumberLaws.{number_small}
 use Rattle.little_endian.proofs.ArrayLaws.{length-array, array-more, array-none, array_same}
@@ -69,58 +71,44 @@ earlier p s n i t u v q k l m =
     let apart : place p s n u ≡ i → ⊥ = λ e. m (place-one p s v n u t k q.inside (e ∙ sym q.here)) in
     omega arith
 
--- the months before place i are looked at: `lowest` is the lowest of them whose value is bad, where there is one
-pub record Lowest {A : Type 0} (test : A → Bool) (f : ℕ → A) (p s n i : ℕ) (lowest : Option ℕ) : Type 0 where
-  pub bad : IfSome lowest (λ t. (t < n) × (test (f (place p s n t)) ≡ false))
-  pub passed : (u : ℕ) → u < n → place p s n u < i → IfSome lowest (λ t. u < t) → test (f (place p s n u)) ≡ true
+-- the months before place i are looked at: `lowest` is the lowest of them whose value is bad, and n where there is none
+pub record Lowest {A : Type 0} (test : A → Bool) (f : ℕ → A) (p s n i lowest : ℕ) : Type 0 where
+  pub most : lowest ≤ n
+  pub bad : lowest < n → test (f (place p s n lowest)) ≡ false
+  pub passed : (u : ℕ) → u < n → place p s n u < i → u < lowest → test (f (place p s n u)) ≡ true
 
 module _ {A : Type 0} {test : A → Bool} {f : ℕ → A} {p s n : ℕ} (v : Starts p s) where
   -- one value more, x, which passes or fails
-  pub lowest_passed : {i t : ℕ} {lowest : Option ℕ} {x : A} → Lowest test f p s n i lowest → Stands p s n i t → x ≡ f i → test x ≡ true → Lowest test f p s n (i + 1) lowest
-  lowest_passed {i} {t} {lowest} q k e h = record { bad = q.bad; passed = λ u a b l. at u a b l (ℕ_discrete u t) }
+  pub lowest_passed : {i t lowest : ℕ} {x : A} → Lowest test f p s n i lowest → Stands p s n i t → x ≡ f i → test x ≡ true → Lowest test f p s n (i + 1) lowest
+  lowest_passed {i} {t} {lowest} q k e h = record { most = q.most; bad = q.bad; passed = λ u a b l. at u a b l (ℕ_discrete u t) }
     where
-      at : (u : ℕ) → u < n → place p s n u < i + 1 → IfSome lowest (λ t. u < t) → Dec (u ≡ t) → test (f (place p s n u)) ≡ true
+      at : (u : ℕ) → u < n → place p s n u < i + 1 → u < lowest → Dec (u ≡ t) → test (f (place p s n u)) ≡ true
       at u a b l (yes z) = ap test (ap f (ap (place p s n) z ∙ k.here) ∙ sym e) ∙ h
       at u a b l (no z) = q.passed u a (earlier p s n i t u v k a b z) l
 
-  pub lowest_failed : {i t : ℕ} {lowest : Option ℕ} {x : A} → Lowest test f p s n i lowest → Stands p s n i t → x ≡ f i → test x ≡ false
-      → Lowest test f p s n (i + 1) (Some (min t (unwrap_or lowest t)))
-  lowest_failed {i} {t} {lowest} {x} q k e h = record { bad = bad lowest q.bad; passed = λ u a b l. q.passed u a (before u a b (below lowest u l)) (lower lowest u l) }
+  pub lowest_failed : {i t lowest : ℕ} {x : A} → Lowest test f p s n i lowest → Stands p s n i t → x ≡ f i → test x ≡ false → Lowest test f p s n (i + 1) (min lowest t)
+  lowest_failed {i} {t} {lowest} {x} q k e h =
+      record {
+        most = omega (arith, q.most);
+        bad = λ l. bad (dec_le t lowest) l;
+        passed = λ u a b l. q.passed u a (earlier p s n i t u v k a b (λ z. omega arith)) (omega arith);
+      }
     where
-      here : test (f (place p s n t)) ≡ false
-      here = ap test (ap f k.here ∙ sym e) ∙ h
+      bad : Dec (t ≤ lowest) → min lowest t < n → test (f (place p s n (min lowest t))) ≡ false
+      bad (yes l) m = let z : min lowest t ≡ t = omega arith in rw z (ap test (ap f k.here ∙ sym e) ∙ h)
+      bad (no l) m = let z : min lowest t ≡ lowest = omega arith in rw z (q.bad (omega arith))
 
-      bad : (low : Option ℕ) → IfSome low (λ t. (t < n) × (test (f (place p s n t)) ≡ false))
-          → (min t (unwrap_or low t) < n) × (test (f (place p s n (min t (unwrap_or low t)))) ≡ false)
-      bad None a = let z : min t t ≡ t = omega arith in rw z (k.inside, here)
-      bad (Some low) a = by (dec_le t low)
-        where
-          by : Dec (t ≤ low) → (min t low < n) × (test (f (place p s n (min t low))) ≡ false)
-          by (yes l) = let z : min t low ≡ t = omega arith in rw z (k.inside, here)
-          by (no l) = let z : min t low ≡ low = omega arith in rw z a
-
-      below : (low : Option ℕ) (u : ℕ) → u < min t (unwrap_or low t) → u < t
-      below None u l = omega arith
-      below (Some low) u l = omega arith
-
-      lower : (low : Option ℕ) (u : ℕ) → u < min t (unwrap_or low t) → IfSome low (λ t. u < t)
-      lower None u l = tt
-      lower (Some low) u l = omega arith
-
-      before : (u : ℕ) → u < n → place p s n u < i + 1 → u < t → place p s n u < i
-      before u a b l = earlier p s n i t u v k a b (λ z. omega arith)
-
-  pub lowest_told : {i : ℕ} {lowest : Option ℕ} (d : A) → Lowest test f p s n i lowest → n ≤ i → lowest ≡ first_failing test (order_of_t d p s (tab n f))
-  lowest_told {i} {lowest} d q h = by lowest q.bad q.passed
+  pub lowest_told : {i lowest : ℕ} (d : A) → Lowest test f p s n i lowest → n ≤ i → then_some (ltb lowest n) lowest ≡ first_failing test (order_of_t d p s (tab n f))
+  lowest_told {i} {lowest} d q h = by (dec_le (lowest + 1) n)
     where
-      by : (low : Option ℕ) → IfSome low (λ t. (t < n) × (test (f (place p s n t)) ≡ false))
-          → ((u : ℕ) → u < n → place p s n u < i → IfSome low (λ t. u < t) → test (f (place p s n u)) ≡ true)
-          → low ≡ first_failing test (order_of_t d p s (tab n f))
-      by None b a =
-          first-none (record { each = λ u l. let k : u < n = omega (arith, length-order_of_t-tab d p s v n f) in ap test (at-order_of_t-tab d p s v n f u k) ∙ a u k (omega (arith, place-below p s v n u k)) tt }) refl
-      by (Some low) b a =
-          first_here (record { each = λ u l. let k : u < n = omega arith in ap test (at-order_of_t-tab d p s v n f u k) ∙ a u k (omega (arith, place-below p s v n u k)) l })
-          (omega (arith, length-order_of_t-tab d p s v n f)) (at-order_of_t-tab d p s v n f low b.0) refl (ap not b.1)
+      before : NoneBefore d test (order_of_t d p s (tab n f)) lowest
+      before = record { each = λ u l. let k : u < n = omega (arith, q.most) in ap test (at-order_of_t-tab d p s v n f u k) ∙ q.passed u k (omega (arith, place-below p s v n u k)) l }
+
+      by : Dec (lowest + 1 ≤ n) → then_some (ltb lowest n) lowest ≡ first_failing test (order_of_t d p s (tab n f))
+      by (yes l) =
+          let k : lowest < n = omega arith in
+          rw (lt-ltb lowest n k) (first_here before (rw (length-order_of_t-tab d p s v n f) k) (at-order_of_t-tab d p s v n f lowest k) refl (ap not (q.bad k)))
+      by (no l) = rw (le-ltb lowest n (omega arith)) (first-none before (omega (arith, length-order_of_t-tab d p s v n f, q.most)))
 
 -- a slice filled by month: the months before place i hold their values, and what is past the n months is as it was
 pub record WalkFilled {A : Type 0} (d : A) (f : ℕ → A) (p s n i : ℕ) (old new : List A) : Type 0 where

@@ -32,9 +32,9 @@ loop-i-preserved-then-outside g c =
       can = tt;
       ends = tt;
       chart = s.2 ∙ q.chart;
-      found = rw (s.3, c.min.ensures, c.unwrap_or.ensures) (lowest_failed {f = λ (i : ℕ). e.decode (number_at c.args.file.now (c.args.from + e.BYTES * i) e.BYTES)} a.charted.starts q.found k (rw s.0 at c.stored.ensures) (not-true _ (sym c.if-outside.ensures)));
+      found = rw (s.3, c.min-lowest.ensures) (lowest_failed {f = λ (i : ℕ). e.decode (number_at c.args.file.now (c.args.from + e.BYTES * i) e.BYTES)} a.charted.starts q.found k (rw s.0 at c.stored.ensures) (not-true _ (sym c.if-outside.ensures)));
     }
 
 pub returns : goal.returns
 unfolding entries_at
-returns g c = lowest_told c.args.chart.charted.starts _ c.loop-i.invariant.found (rw c.loop-i.invariant.chart at c.in-None.ensures.steps)
+returns g c = c.then_some.ensures ∙ lowest_told c.args.chart.charted.starts _ c.loop-i.invariant.found (rw c.loop-i.invariant.chart at c.in-None.ensures.steps)
