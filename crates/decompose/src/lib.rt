@@ -6,7 +6,8 @@ ghost use Rattle.decompose.specs.Promise.{Promise};
 use checks::Lengths;
 use refusals::Refusal;
 
-// A series of figures from a start month into D10 to D13, B17 and C17, or a refusal (METHOD 8.2).
+// A series of figures from a start month into D10 to D13, B17 and C17, or a refusal (METHOD 8.2). (The lent slices stay parameters: this is an entry
+// point, which README has as it stands.)
 #[tactic(auto, unfolding(crate::specs::Promise::lengths_of))]
 pub fn decompose(
     figures: &[i32],

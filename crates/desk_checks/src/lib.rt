@@ -10,7 +10,8 @@ ghost use Rattle.desk_checks.specs.Checked.{ContentsSay, FileSays, SeriesSays, S
 use desk_forms::{DatedSeries, Form, SizedFile};
 use refusals::Refusal;
 
-// What is lent to be filled: slices for figures and weights, by their entries, or an output, by its bytes, for a file in a form.
+// What is lent to be filled: slices for figures and weights, by their entries, or an output, by its bytes, for a file in a form. (It is taken apart in
+// one place, `too_short`: a closure for row 4 would have to promise what a case says by itself.)
 #[derive(Clone, Copy, PartialEq, Eq, Debug)]
 pub enum Lent {
     Slices { figures: usize, weights: usize },

@@ -42,6 +42,7 @@ const MONTH: usize = FIGURE + <u16 as Entry>::BYTES;
 // The period of a desk file.
 pub const MONTHLY: u8 = refusals::MONTHS_OF_YEAR as u8;
 
+// What differs is data, so each of these is a match of two arms; a closure for each form would only stand further from it.
 impl Form {
     // The bytes before the figures.
     pub fn front(self) -> usize

@@ -1,5 +1,5 @@
 // METHOD 8.5, reading, writing and moving a desk file for callers in other languages: an answer is a number, 0 for success, else the refusal's number.
-// Crate `vepsjalm` exports these functions.
+// Crate `vepsjalm` exports these functions. (Numbers and lent places are the C interface: each function sets those of its own.)
 #![tactic(auto)]
 
 ghost use Rattle.desk_file.specs.WriteFile.{write_says};

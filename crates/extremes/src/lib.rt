@@ -26,7 +26,7 @@ pub fn month_of(start: u8, period: u8, t: usize) -> u8
     ((usize::from(start) - 1 + t) % usize::from(period) + 1) as u8
 }
 
-// The weights of an irregular whose years have so many months, with two slices to work in.
+// The weights of an irregular whose years have so many months, with two slices to work in. (They stay parameters: each caller lends other ones.)
 pub fn weights(
     irregular: &[i64],
     start: u8,

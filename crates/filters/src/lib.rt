@@ -80,7 +80,8 @@ fn fill_row(
     }
 }
 
-// METHOD 2.1: the months before which fewer than `side` values stand, `step` of them for each number of values before, by the rows for the start.
+// METHOD 2.1: the months before which fewer than `side` values stand, `step` of them for each number of values before, by the rows for the start. (The
+// months and the slices stay parameters, here and below: a struct of them would be made anew for each call.)
 #[inline(always)]
 fn fill_start(f: StoredTable, first: usize, past: usize, x: &[i64], out: &mut [i64])
     requires { CanFilter (table_of f) first past x.now × (length out.old ≡ length x.now) }

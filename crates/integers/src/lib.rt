@@ -9,7 +9,8 @@ ghost use Rattle.integers.specs.Promises.{largest_numerator, largest_candidate, 
 // The largest quotient that is rounded, in pairs of grains.
 const PAIRS: i64 = 2_000_000_000_000;
 
-// Twice x and d more, away from zero.
+// Twice x and d more, away from zero. (The numerator and the denominator stay two numbers, here and below: a type for both would be made anew for
+// each call.)
 #[tactic(auto, unfolding(crate::specs::Promises::farther))]
 fn farther(x: i64, d: i64) -> i64
     requires { Rounds x d }

@@ -1,5 +1,5 @@
 // METHOD 8.5: decomposing, reading, writing and moving desk files, and reading members' sheets, as numbers: an answer is 0 for success, else the
-// refusal's number. vepsjalm_c hands each function on to callers in other languages.
+// refusal's number. vepsjalm_c hands each function on to callers in other languages. (Numbers and lent places are the C interface.)
 #![tactic(auto)]
 
 ghost use Rattle.desk_forms.specs.Header.{series};

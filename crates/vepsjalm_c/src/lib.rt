@@ -1,4 +1,5 @@
-// The static library: the functions of vepsjalm for callers in other languages, under the same names and with the same promises.
+// The static library: the functions of vepsjalm for callers in other languages, under the same names and with the same promises. (Numbers, lent places
+// and slices are the C interface, include/vepsjalm.h.)
 #![tactic(auto)]
 
 ghost use Rattle.desk_forms.specs.Header.{series};
