@@ -54,6 +54,7 @@ pub fn figure_of(x: f64) -> Option<i32>
 }
 
 // The figure that a double is, where it is known to count. A sum with positive zero is never negative zero, which the cast would not take.
+// A cast, since cutting each double again where it is stored was tried, and costs (DECISIONS, 92).
 pub fn number_of(x: f64) -> i32
     requires { counts x ≡ true }
     ensures { result ≡ number_in x }

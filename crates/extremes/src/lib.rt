@@ -16,7 +16,7 @@ mod weighing; // a month's weight, and those of all groups
 
 use calendar::Years;
 use sizes::{Held, fill_sizes, fill_sums};
-use spreads::Months;
+use spreads::MonthSizes;
 
 // METHOD 3.8: the calendar month of month t, where a year has so many months.
 pub fn month_of(start: u8, period: u8, t: usize) -> u8
@@ -47,7 +47,7 @@ pub fn weights(
         period: usize::from(period),
         months: irregular.len(),
     };
-    let months = Months { years, sizes, sums };
+    let months = MonthSizes { years, sizes, sums };
     months.weigh(out);
 }
 

@@ -9,7 +9,7 @@ use super::sizes::Held;
 
 // The months that are weighed: their years, their sizes, and the running sums of the squares of these.
 #[derive(Drop)]
-pub struct Months<'a> {
+pub struct MonthSizes<'a> {
     pub years: Years,
     pub sizes: Held<'a>,
     pub sums: Held<'a>,
@@ -18,7 +18,7 @@ pub struct Months<'a> {
     ghost summed: { sums ≡ running_squares sizes },
 }
 
-impl<'a> Months<'a> {
+impl<'a> MonthSizes<'a> {
     // The first month from t to below hi with twice its size above the limit, or hi where there is none. (An Option, or std's `position`, takes 19 %
     // more instructions and more; dropping in a plain loop over the months 35 %.)
     // Twice a size is above the limit where the size is above half of it.

@@ -4,7 +4,7 @@ ghost use Rattle.integers.specs.Filling.{Filled};
 ghost use Rattle.extremes.specs.Weighing.{weight, weight_by, weights_by};
 ghost use Rattle.extremes.specs.Promises.{largest_size};
 
-use super::spreads::Months;
+use super::spreads::MonthSizes;
 
 // The weight of a month by the second spread of its group and its size.
 #[tactic(auto, using(std::proofs::lemmas::Bool::Decides::nat_tests, crate::proofs::WeighingLaws::quotient_most), unfolding(crate::specs::Weighing::weight))]
@@ -23,7 +23,7 @@ fn weight(spread: u64, size: u64) -> u16
     }
 }
 
-impl<'a> Months<'a> {
+impl<'a> MonthSizes<'a> {
     // The weights of the months from lo to below hi, whose group has this second spread.
     fn fill_weights(&self, lo: usize, hi: usize, spread: u64, out: &mut [u16])
         requires { (lo ≤ hi) × (hi ≤ length self.now.sizes) × (length out.old ≡ length self.now.sizes) × (spread ≤ largest_size) }

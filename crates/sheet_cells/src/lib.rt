@@ -28,7 +28,7 @@ pub enum Cell {
     Revision(Imported, Imported),
 }
 
-// The kinds.
+// The kinds. An enum of them would be no plainer: the byte is matched once, in `cell_at`, and `Cell` is the enum.
 const GAP: u8 = 0;
 
 const FIGURE: u8 = 1;

@@ -7,8 +7,7 @@ ghost use Rattle.desk_numbers.specs.DeskNumbers.{BackNumbers, ForwardNumbers, Re
 ghost use Rattle.sheet_numbers.specs.SheetNumbers.{SheetNumbers};
 ghost use Rattle.vepsjalm.specs.Numbers.{DecomposeNumbers};
 
-use decompose::Decomposed;
-
+// Numbers and lent places are what C takes and gives: the functions of vepsjalm_c.
 pub fn vepsjalm_decompose(
     figures: &[i32],
     start: u8,
@@ -26,13 +25,16 @@ pub fn vepsjalm_decompose(
         result place.new
         (record { d10 = d10.new; d11 = d11.new; d12 = d12.new; d13 = d13.new; b17 = b17.new; c17 = c17.new; scratch = scratch.new }) }
 {
-    let answer = decompose::decompose(figures, start, d10, d11, d12, d13, b17, c17, scratch);
-    let Decomposed::Refused(refusal) = answer else {
-        *place = 0;
-        return 0;
-    };
-    *place = refusals::place(refusal);
-    refusals::number(refusal)
+    match decompose::decompose(figures, start, d10, d11, d12, d13, b17, c17, scratch) {
+        Ok(()) => {
+            *place = 0;
+            0
+        }
+        Err(refusal) => {
+            *place = refusals::place(refusal);
+            refusals::number(refusal)
+        }
+    }
 }
 
 // Reading, writing and moving, as `desk_numbers` answers them.

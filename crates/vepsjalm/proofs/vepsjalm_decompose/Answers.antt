@@ -2,8 +2,8 @@
 use Rattle.vepsjalm.proofs.Answers.{has_tables, not-tables}
 use Rattle.vepsjalm.proofs.vepsjalm_decompose.Goals as goal
 
-pub returns-in_default : goal.returns-in_default
-returns-in_default c = has_tables c.decompose-answer.ensures c.in_default.is
+pub returns-in-Ok : goal.returns-in-Ok
+returns-in-Ok c = has_tables c.decompose.ensures c.in-Ok.is
 
-pub returns : goal.returns
-returns c = not-tables c.decompose-answer.ensures c.in-Refused.is c.number.ensures c.place.ensures
+pub returns-in-Err : goal.returns-in-Err
+returns-in-Err c = not-tables c.decompose.ensures c.in-Err.is c.number.ensures c.place.ensures

@@ -6,7 +6,7 @@ use Rattle.extremes.specs.Weighing.{weights_by}
 use Rattle.extremes.specs.Promises.{served_from}
 use Rattle.extremes.proofs.YearLaws.{years-some, served_first, served_end, served_order}
 use Rattle.extremes.proofs.Groups.{second_most, group-filled}
-use Rattle.extremes.proofs.spreads.Months.weigh.Goals as goal
+use Rattle.extremes.proofs.spreads.MonthSizes.weigh.Goals as goal
 
 pub overflow_sub-last : goal.overflow_sub-last
 overflow_sub-last c = let s = c.args.self.now.years.calendar in omega (arith, c.count-last.ensures, years-some s.early s.late s.least)

@@ -1,4 +1,4 @@
--- `extremes::spreads::Months::group_spread` meets its contract: the range is the group's, and the total and the first spread are those of all its months.
+-- `extremes::spreads::MonthSizes::group_spread` meets its contract: the range is the group's, and the total and the first spread are those of all its months.
 use Prim.Native.Nat.{◌+◌, ◌-◌}
 use mathlib.Core.Path.{◌≡◌, ◌∙◌}
 use native.Mathlib.Omega.{arith}
@@ -7,10 +7,10 @@ use Rattle.extremes.specs.Spreads.{squares, spread, limit_of, remaining, second_
 use Rattle.extremes.proofs.YearLaws.{years-few}
 use Rattle.extremes.proofs.RunningSums.{squares-before, first_is}
 use Rattle.extremes.proofs.Groups.{GroupFound, group-found}
-use Rattle.extremes.proofs.spreads.Months.group_spread.Lts as lts
-use Rattle.extremes.proofs.spreads.Months.group_spread.Tie as tie
-use Rattle.extremes.proofs.spreads.Months.group_spread.Reads as reads
-use Rattle.extremes.proofs.spreads.Months.group_spread.Goals as goal
+use Rattle.extremes.proofs.spreads.MonthSizes.group_spread.Lts as lts
+use Rattle.extremes.proofs.spreads.MonthSizes.group_spread.Tie as tie
+use Rattle.extremes.proofs.spreads.MonthSizes.group_spread.Reads as reads
+use Rattle.extremes.proofs.spreads.MonthSizes.group_spread.Goals as goal
 
 abbrev After-first_month-hi : Type 0
 After-first_month-hi = lts.After-first_month2 tie.the-claims reads.Pre reads.Post

@@ -1,11 +1,11 @@
--- `extremes::spreads::Months::weigh` meets its contract: the months that the groups passed serve have their weights.
+-- `extremes::spreads::MonthSizes::weigh` meets its contract: the months that the groups passed serve have their weights.
 use Prim.Native.Nat.{◌+◌, ◌-◌, ◌≤◌}
 use mathlib.Core.Path.{◌≡◌}
 use Rattle.integers.specs.Filling.{Filled}
 use Rattle.extremes.specs.Years.{years}
 use Rattle.extremes.specs.Weighing.{month_weight}
 use Rattle.extremes.specs.Promises.{served_from}
-use Rattle.extremes.proofs.spreads.Months.weigh.Given as goal
+use Rattle.extremes.proofs.spreads.MonthSizes.weigh.Given as goal
 
 abbrev pub invariant-loop-c : goal.invariant-loop-c
 invariant-loop-c l = let y = l.self.years in

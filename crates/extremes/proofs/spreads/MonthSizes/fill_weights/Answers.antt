@@ -2,7 +2,7 @@ use mathlib.Core.Path.{ap, ◌∙◌}
 use native.Mathlib.Omega.{arith}
 use Rattle.integers.proofs.FillingLaws.{filled_more}
 use Rattle.extremes.specs.Weighing.{weight, weight_by}
-use Rattle.extremes.proofs.spreads.Months.fill_weights.Goals as goal
+use Rattle.extremes.proofs.spreads.MonthSizes.fill_weights.Goals as goal
 
 pub loop-t-preserved : goal.loop-t-preserved
 unfolding weight_by

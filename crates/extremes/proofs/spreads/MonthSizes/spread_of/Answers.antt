@@ -1,6 +1,6 @@
 use native.Mathlib.Omega.{arith}
 use Rattle.extremes.proofs.SpreadLaws.{dropping_all, one_dropped, dropping_next, dropping_done, spread-is}
-use Rattle.extremes.proofs.spreads.Months.spread_of.Goals as goal
+use Rattle.extremes.proofs.spreads.MonthSizes.spread_of.Goals as goal
 
 pub loop-t-init : goal.loop-t-init
 loop-t-init c = dropping_all c.args.self.now.sizes (omega arith) c.next_above-t.ensures (omega arith) (omega arith)

@@ -1,4 +1,4 @@
--- `extremes::spreads::Months::sum_before` meets its contract: the running sum of the month before; before month 0 there is none.
+-- `extremes::spreads::MonthSizes::sum_before` meets its contract: the running sum of the month before; before month 0 there is none.
 use Prim.Native.Nat.{ℕ, ◌+◌, ◌-◌}
 use mathlib.Core.Path.{◌≡◌, sym, ap, ◌∙◌}
 use mathlib.Core.List.{List}
@@ -7,7 +7,7 @@ use lib.ListN.{length, get_or}
 use Rattle.extremes.specs.Years.{months}
 use Rattle.extremes.specs.Spreads.{squares}
 use Rattle.extremes.proofs.RunningSums.{squares-none, length-running, sum_up_to}
-use Rattle.extremes.proofs.spreads.Months.sum_before.Goals as goal
+use Rattle.extremes.proofs.spreads.MonthSizes.sum_before.Goals as goal
 
 pub at-requires : goal.at-requires
 at-requires c = let m = c.args.self.now in omega (arith, ap length m.summed, length-running m.sizes)

@@ -1,7 +1,7 @@
 use mathlib.Core.Path.{◌∙◌}
 use native.Mathlib.Omega.{arith}
 use Rattle.extremes.proofs.SpreadLaws.{month-stays}
-use Rattle.extremes.proofs.spreads.Months.next_above.Goals as goal
+use Rattle.extremes.proofs.spreads.MonthSizes.next_above.Goals as goal
 
 pub loop-k-preserved : goal.loop-k-preserved
 loop-k-preserved c = let l = c.loop-k in
