@@ -40,21 +40,21 @@ fn weigh(si: &[i64], start: u8, r: &mut [i64], t: &mut [i64], s: &mut [i64], w: 
 // Steps 1 and 2: SI1 of x, replaced, in a, at its own months from 6 to n - 7; the six months at each end are none of its own, and stay as they were.
 // The weighing and the replacing are lent the months of SI1 alone, and count from the first of them.
 fn replaced_si1(
-    series: &Series,
+    given: &Series,
     a: &mut [i64],
     b: &mut [i64],
     t: &mut [i64],
     s: &mut [i64],
     w: &mut [u16],
 )
-    requires { PassBSlices (length series.now.x.now) a.old b.old t.old s.old w.old }
-    ensures { Filled (pos 0) (at_month 6 (replaced_by months_of_year (weights_b4 series.now.start series.now.x.now) (SI1 plain_monthly series.now.x.now)))
-        6 (length series.now.x.now - 6) a.old a.new }
+    requires { PassBSlices (length given.now.x.now) a.old b.old t.old s.old w.old }
+    ensures { Filled (pos 0) (at_month 6 (replaced_by months_of_year (weights_b4 given.now.start given.now.x.now) (SI1 plain_monthly given.now.x.now)))
+        6 (length given.now.x.now - 6) a.old a.new }
 {
-    let past = series.x.len() - 6;
-    pass::first_si(series.x, a, b);
+    let past = given.x.len() - 6;
+    pass::first_si(given.x, a, b);
     filters::three_by_three(6, past, b, a);
-    let start_b4 = extremes::month_of(series.start, refusals::MONTHS_OF_YEAR as u8, 6);
+    let start_b4 = extremes::month_of(given.start, refusals::MONTHS_OF_YEAR as u8, 6);
     weigh(
         &b[6..past],
         start_b4,
@@ -68,38 +68,38 @@ fn replaced_si1(
 
 // Steps 1 to 4: S1 of x in s.
 fn first_seasonal(
-    series: &Series,
+    given: &Series,
     a: &mut [i64],
     b: &mut [i64],
     t: &mut [i64],
     s: &mut [i64],
     w: &mut [u16],
 )
-    requires { PassBSlices (length series.now.x.now) a.old b.old t.old s.old w.old }
-    ensures { s.new ≡ S1 (choices_b4 series.now.start series.now.x.now) series.now.x.now }
+    requires { PassBSlices (length given.now.x.now) a.old b.old t.old s.old w.old }
+    ensures { s.new ≡ S1 (choices_b4 given.now.start given.now.x.now) given.now.x.now }
 {
-    replaced_si1(series, a, b, t, s, w);
+    replaced_si1(given, a, b, t, s, w);
     pass::seasonal_of_si1(a, b, t, s);
 }
 
 // Step 6: SI2 of x from its T2, replaced, in b. t makes way for the weighing, and is T2 again at the end: x less SI2.
 fn replaced_si2(
-    series: &Series,
+    given: &Series,
     a: &mut [i64],
     b: &mut [i64],
     t: &mut [i64],
     s: &mut [i64],
     w: &mut [u16],
 )
-    requires { (t.old ≡ T2 (choices_b4 series.now.start series.now.x.now) series.now.x.now)
-        × PassBSlices (length series.now.x.now) a.old b.old t.old s.old w.old }
-    ensures { SI2Replaced series.now.start series.now.x.now b.new t.new }
+    requires { (t.old ≡ T2 (choices_b4 given.now.start given.now.x.now) given.now.x.now)
+        × PassBSlices (length given.now.x.now) a.old b.old t.old s.old w.old }
+    ensures { SI2Replaced given.now.start given.now.x.now b.new t.new }
 {
-    series::minus(series.x, t, a);
-    filters::three_by_five(0, series.x.len(), a, b);
-    weigh(a, series.start, b, t, s, w);
+    series::minus(given.x, t, a);
+    filters::three_by_five(0, given.x.len(), a, b);
+    weigh(a, given.start, b, t, s, w);
     replacing::replace(a, w, b);
-    series::minus(series.x, a, t);
+    series::minus(given.x, a, t);
 }
 
 // Steps 1 to 7: T2 and S2 of x; a, b and w are work space.
@@ -115,9 +115,9 @@ pub fn pass_b(
     requires { PassBSeries start x.now × PassBSlices (length x.now) a.old b.old t.old s.old w.old }
     ensures { PassBDone start x.now t.new s.new }
 {
-    let series = Series { x, start };
-    first_seasonal(&series, a, b, t, s, w);
+    let given = Series { x, start };
+    first_seasonal(&given, a, b, t, s, w);
     pass::trend(Terms::Thirteen, x, s, a, t);
-    replaced_si2(&series, a, b, t, s, w);
+    replaced_si2(&given, a, b, t, s, w);
     pass::seasonal_of_si2(SeasonalFilter::ThreeByFive, b, a, s);
 }

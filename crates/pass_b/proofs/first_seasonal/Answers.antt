@@ -5,7 +5,7 @@ use Rattle.pass_b.proofs.Turns.{series, sound4, replaced1_stands}
 use Rattle.pass_b.proofs.first_seasonal.Goals as goal
 
 pub seasonal_of_si1-requires : goal.seasonal_of_si1-requires
-seasonal_of_si1-requires c = let h = c.args.series.now.fits in let e = c.replaced_si1 in record {
+seasonal_of_si1-requires c = let h = c.args.given.now.fits in let e = c.replaced_si1 in record {
   filterable = stages.si1_filterable (sound4 h) (series h) (replaced1_stands h e.ensures c.requires.a_long);
   long = omega (arith, h.long, c.requires.a_long, e);
   r_long = omega (arith, c.requires, e);
@@ -14,4 +14,4 @@ seasonal_of_si1-requires c = let h = c.args.series.now.fits in let e = c.replace
 }
 
 pub returns : goal.returns
-returns c = let h = c.args.series.now.fits in stages.to_s1 (sound4 h) (series h) (replaced1_stands h c.replaced_si1.ensures c.requires.a_long) c.seasonal_of_si1.ensures
+returns c = let h = c.args.given.now.fits in stages.to_s1 (sound4 h) (series h) (replaced1_stands h c.replaced_si1.ensures c.requires.a_long) c.seasonal_of_si1.ensures

@@ -72,35 +72,35 @@ module _ {start : ℕ} {x b₀ b a₀ a : List ℤ} (h : PassBSeries start x) (f
           (λ t _ _. ap (λ (y : List ℤ). at_month 6 y t) (p ∙ ap₂ (replaced_by months_of_year) is-weights is-si1)))))
 
 pub three_by_three-requires : goal.three_by_three-requires
-three_by_three-requires c = let h = c.args.series.now.fits in
+three_by_three-requires c = let h = c.args.given.now.fits in
     (si1-months h (si1_stands h c.first_si.ensures.1 c.requires.b_long), omega (arith, h.long), omega (arith, c.requires, c.first_si))
 
 pub weigh-requires : goal.weigh-requires
-weigh-requires c = let h = c.args.series.now.fits in let f = c.first_si.ensures.1 in let l = c.requires.b_long in let r = c.three_by_three.ensures in
-    let m : length c.first_si.new.t1 ≡ length c.args.series.now.x.now = omega (arith, c.requires, c.first_si) in
+weigh-requires c = let h = c.args.given.now.fits in let f = c.first_si.ensures.1 in let l = c.requires.b_long in let r = c.three_by_three.ensures in
+    let m : length c.first_si.new.t1 ≡ length c.args.given.now.x.now = omega (arith, c.requires, c.first_si) in
     weighs1 h (is-si1 h f l r m) c.month_of-start_b4.ensures.1 c.month_of-start_b4.ensures.2 (is-3x3 h f l r m) (lent h f l r m c.args.t.now c.requires.t_long) (lent h f l r m c.args.s.now c.requires.s_long) (lent h f l r m c.args.w.now c.requires.w_long)
 
 pub replace-requires : goal.replace-requires
-replace-requires c = let h = c.args.series.now.fits in let f = c.first_si.ensures.1 in let l = c.requires.b_long in let r = c.three_by_three.ensures in
-    let m : length c.first_si.new.t1 ≡ length c.args.series.now.x.now = omega (arith, c.requires, c.first_si) in
-    let i : length c.weigh.new.r ≡ length (take (length c.args.series.now.x.now - 6 - 6) (drop 6 c.three_by_three.new.out)) = omega (arith, c.weigh) in
-    let k : length c.weigh.new.w ≡ length (take (length c.args.series.now.x.now - 6 - 6) (drop 6 c.args.w.now)) = omega (arith, c.weigh) in
+replace-requires c = let h = c.args.given.now.fits in let f = c.first_si.ensures.1 in let l = c.requires.b_long in let r = c.three_by_three.ensures in
+    let m : length c.first_si.new.t1 ≡ length c.args.given.now.x.now = omega (arith, c.requires, c.first_si) in
+    let i : length c.weigh.new.r ≡ length (take (length c.args.given.now.x.now - 6 - 6) (drop 6 c.three_by_three.new.out)) = omega (arith, c.weigh) in
+    let k : length c.weigh.new.w ≡ length (take (length c.args.given.now.x.now - 6 - 6) (drop 6 c.args.w.now)) = omega (arith, c.weigh) in
     let b = lent h f l r m c.first_si.new.si (stands h f l r m).long in
     (si1_filterable h (is-si1 h f l r m), lent h f l r m _ (w-back h f l r m c.weigh.new.r c.args.w.now c.weigh.new.w i c.requires.w_long k) ∙ sym b, lent h f l r m _ (a-back h f l r m c.weigh.new.r c.args.w.now c.weigh.new.w i c.requires.w_long k) ∙ sym b)
 
 pub shape_of-a : goal.shape_of-a
-shape_of-a c = let h = c.args.series.now.fits in let f = c.first_si.ensures.1 in let l = c.requires.b_long in let r = c.three_by_three.ensures in
-    let m : length c.first_si.new.t1 ≡ length c.args.series.now.x.now = omega (arith, c.requires, c.first_si) in
-    let i : length c.weigh.new.r ≡ length (take (length c.args.series.now.x.now - 6 - 6) (drop 6 c.three_by_three.new.out)) = omega (arith, c.weigh) in
-    let k : length c.weigh.new.w ≡ length (take (length c.args.series.now.x.now - 6 - 6) (drop 6 c.args.w.now)) = omega (arith, c.weigh) in
+shape_of-a c = let h = c.args.given.now.fits in let f = c.first_si.ensures.1 in let l = c.requires.b_long in let r = c.three_by_three.ensures in
+    let m : length c.first_si.new.t1 ≡ length c.args.given.now.x.now = omega (arith, c.requires, c.first_si) in
+    let i : length c.weigh.new.r ≡ length (take (length c.args.given.now.x.now - 6 - 6) (drop 6 c.three_by_three.new.out)) = omega (arith, c.weigh) in
+    let k : length c.weigh.new.w ≡ length (take (length c.args.given.now.x.now - 6 - 6) (drop 6 c.args.w.now)) = omega (arith, c.weigh) in
     (replaced h f l r m c.weigh.new.r c.args.w.now c.weigh.new.w i c.requires.w_long k (rw c.month_of-start_b4.ensures.0 at c.weigh.ensures) c.first_si.ensures.0 (omega (arith, c.replace)) c.replace.ensures).long
 
 pub shape_of-b : goal.shape_of-b
 shape_of-b c = c.first_si.ensures.1.long
 
 pub returns : goal.returns
-returns c = let h = c.args.series.now.fits in let f = c.first_si.ensures.1 in let l = c.requires.b_long in let r = c.three_by_three.ensures in
-    let m : length c.first_si.new.t1 ≡ length c.args.series.now.x.now = omega (arith, c.requires, c.first_si) in
-    let i : length c.weigh.new.r ≡ length (take (length c.args.series.now.x.now - 6 - 6) (drop 6 c.three_by_three.new.out)) = omega (arith, c.weigh) in
-    let k : length c.weigh.new.w ≡ length (take (length c.args.series.now.x.now - 6 - 6) (drop 6 c.args.w.now)) = omega (arith, c.weigh) in
+returns c = let h = c.args.given.now.fits in let f = c.first_si.ensures.1 in let l = c.requires.b_long in let r = c.three_by_three.ensures in
+    let m : length c.first_si.new.t1 ≡ length c.args.given.now.x.now = omega (arith, c.requires, c.first_si) in
+    let i : length c.weigh.new.r ≡ length (take (length c.args.given.now.x.now - 6 - 6) (drop 6 c.three_by_three.new.out)) = omega (arith, c.weigh) in
+    let k : length c.weigh.new.w ≡ length (take (length c.args.given.now.x.now - 6 - 6) (drop 6 c.args.w.now)) = omega (arith, c.weigh) in
     replaced h f l r m c.weigh.new.r c.args.w.now c.weigh.new.w i c.requires.w_long k (rw c.month_of-start_b4.ensures.0 at c.weigh.ensures) c.first_si.ensures.0 (omega (arith, c.replace)) c.replace.ensures
