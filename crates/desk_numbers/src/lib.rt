@@ -13,7 +13,8 @@ mod plain;
 pub use columns::{from_columns, read_columns, to_columns, write_columns};
 pub use plain::{read, write};
 
-// The answer of a writer, or of moving forward.
+// The answer of a writer, or of moving forward. The others have more values than a length, each in a place of its own: one generic function for all
+// would take as many places and is no plainer.
 fn told(answer: Result<usize, Refusal>, size: &mut usize, place: &mut usize) -> u8
     ensures { SizeTold (write_says answer) result size.new place.new }
 {

@@ -1,6 +1,6 @@
 -- `desk_checks::check_sizes` meets its contract: at each return, the checks before it did not apply.
 use Prim.Native.Nat.{ℕ}
-use mathlib.Core.Path.{◌≡◌, refl, sym, ◌∙◌}
+use mathlib.Core.Path.{◌≡◌, refl, sym}
 use mathlib.Core.List.{List}
 use native.Mathlib.Omega.{arith}
 use Rattle.std.proofs.Common.{rules}
@@ -53,7 +53,7 @@ invariant_of-result c =
         least = h.least;
         most = h.most;
         inside = h.inside;
-        size = c.if-file-length.false ∙ c.length.ensures;
+        size = omega (arith, c.if-file-length.false, c.length.ensures);
       };
     }
 
