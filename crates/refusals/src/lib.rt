@@ -48,7 +48,8 @@ pub enum Refusal {
     BadDouble(usize),
 }
 
-// A row of the refusal sheet: its number, and the place that the refusal tells, 0 for those without one.
+// A row of the refusal sheet: its number, and the place that the refusal tells, 0 for those without one. Numbers, since the sheet and C have them
+// (METHOD 8.1 and 8.5).
 #[derive(Clone, Copy)]
 struct Row(u8, usize);
 
