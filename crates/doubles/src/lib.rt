@@ -6,21 +6,17 @@ ghost use Rattle.little_endian.specs.Bytes.{Number};
 ghost use Rattle.doubles.specs.Doubles.{counts, double_at, number_in, unused_at};
 ghost use Rattle.doubles.specs.Promises.{figure_of};
 
-// Bytes of a double and of half of one, and how many numbers four bytes can make.
+// Bytes of a double.
 pub const DOUBLE: usize = 8;
-
-const HALF: usize = 4;
-
-const HALF_MODULUS: u64 = 4294967296;
 
 // The number that the eight bytes of a double make.
 fn bits_at(bytes: &[u8], at: usize) -> u64
     requires { at + 8 ≤ length bytes.now }
     ensures { Number bytes.now at 8 result }
 {
-    let low = little_endian::number_at(bytes, at, HALF) as u64;
-    let high = little_endian::number_at(bytes, at + HALF, HALF) as u64;
-    low + HALF_MODULUS * high
+    let mut eight = [0; DOUBLE];
+    eight.copy_from_slice(&bytes[at..at + DOUBLE]);
+    u64::from_le_bytes(eight)
 }
 
 // The double in eight bytes; every pattern that is no number gives the same.
