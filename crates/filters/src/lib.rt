@@ -148,7 +148,7 @@ pub fn two_by_twelve(first: usize, past: usize, x: &[i64], out: &mut [i64])
     fill_inside(TWO_BY_TWELVE, first, past, x, out);
 }
 
-// METHOD 2.3: 3x3 of each month's run.
+// METHOD 2.3: 3x3 of each month's run. (It takes runs of four years, which `seasonal` does not.)
 pub fn three_by_three(first: usize, past: usize, x: &[i64], out: &mut [i64])
     requires { FilterableMonths first past x.now × (first + 48 ≤ past) × (length out.old ≡ length x.now) }
     ensures { FilteredMonths (table_seasonal ThreeByThree) first past x.now out.old out.new }

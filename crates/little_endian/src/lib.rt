@@ -5,8 +5,8 @@ ghost use Rattle.std.specs.Prelude.{◌≡◌, ◌+◌, ◌≤◌, length};
 ghost use Rattle.std.proofs.lemmas.List.Edits.{sets};
 ghost use Rattle.little_endian.specs.Bytes.{AreBytes, bytes_of, Number, signed, word};
 
-// The number that bytes make: the last byte is the highest. (The slice, the place and the width stay parameters, here and below: callers have a whole
-// file, and read and write it at many places.)
+// The number that bytes make: the last byte is the highest. (A loop, here and below, since the library's `from_le_bytes` has one width for each type; the
+// slice, the place and the width stay parameters, since callers read and write a whole file at many places.)
 pub fn number_at(bytes: &[u8], at: usize, width: usize) -> u32
     requires { (width ≤ 4) × (at + width ≤ length bytes.now) }
     ensures { Number bytes.now at width result }
