@@ -72,7 +72,9 @@ fn check_contents(file: SizedFile) -> Result<(), Refusal>
     Ok(())
 }
 
-// A file that is read or moved; `given` is its first year where the form has none.
+// A file that is read or moved; `given` is its first year where the form has none. Inlined, so that what is done with the file knows its form: moving
+// takes 36,000 instructions for 600 months, and else 66,000.
+#[inline(always)]
 pub fn check_file<'a>(
     file: &'a [u8],
     form: Form,
