@@ -24,7 +24,7 @@ pub struct PlainSize {
     pub year: u16,
 }
 
-// Given as the first year where a file has its own, and not looked at.
+// Given as the first year where a file has its own, and not looked at. (A number, as in `desk_file`.)
 const ITS_OWN: u16 = 0;
 
 // Reads a desk file by calendar month: the first n places of both slices are filled, in order of t, the rest stays.

@@ -15,7 +15,8 @@ pub struct Series {
     pub start: u8,
 }
 
-// This form has no year: it is as if its series started in the earliest one, from which none runs past the latest.
+// This form has no year: it is as if its series started in the earliest one, from which none runs past the latest. (A number and no Option, since the
+// definitions of both forms take a year.)
 const ANY_YEAR: u16 = refusals::EARLIEST_YEAR as u16;
 
 // Reads a desk file: the first n places of both slices are filled, the rest stays.

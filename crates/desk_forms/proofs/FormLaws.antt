@@ -39,6 +39,10 @@ charted_columns {n} {start} h = record {
   full = omega (arith, h.least);
 }
 
+pub charted_form : (form : Form) {n start : ℕ} → SpanFits n start → Charted (months_in form) (start_of form start) n
+charted_form Plain h = charted_plain h
+charted_form Columns h = charted_columns h
+
 -- ---- what a file means
 pub figures_by : (form : Form) (file : List ℕ)
     → order_of_t (pos 0) (months_in form) (start_of form (start_in file)) (figures_at file (front_of form) (count_in file)) ≡ (meaning_of form file).figures

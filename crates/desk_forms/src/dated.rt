@@ -25,7 +25,7 @@ pub fn put_front(out: &mut [u8], form: Form, n: usize, start: u8, year: u16)
 {
     put_header(out, n, start);
     match form {
-        Form::Plain => {} // no year
+        Form::Plain => {} // no year: one step is left out, in this place alone
         Form::Columns => {
             little_endian::put_number(out, HEADER, YEAR, u32::from(year));
         }

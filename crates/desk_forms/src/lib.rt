@@ -70,22 +70,34 @@ impl Form {
         self.front() + MONTH * n
     }
 
-    // The order of its arrays, as a month order: with one month in a year it is the order of t.
+    // The order of its arrays, as a month order: the months in a year, and the start month. With one month in a year it is the order of t.
+    pub fn months_in(self) -> usize
+        ensures { result ≡ months_in self }
+    {
+        match self {
+            Form::Plain => 1,
+            Form::Columns => refusals::MONTHS_OF_YEAR,
+        }
+    }
+
+    pub fn start_of(self, start: u8) -> usize
+        ensures { result ≡ start_of self start }
+    {
+        match self {
+            Form::Plain => 1,
+            Form::Columns => usize::from(start),
+        }
+    }
+
+    // That order of n months.
     pub fn chart(self, n: usize, start: u8) -> Chart
         requires { SpanFits n start }
         ensures { (result.period ≡ months_in self) × (result.start ≡ start_of self start) × (result.count ≡ n) }
     {
-        match self {
-            Form::Plain => Chart {
-                period: 1,
-                start: 1,
-                count: n,
-            },
-            Form::Columns => Chart {
-                period: refusals::MONTHS_OF_YEAR,
-                start: usize::from(start),
-                count: n,
-            },
+        Chart {
+            period: self.months_in(),
+            start: self.start_of(start),
+            count: n,
         }
     }
 

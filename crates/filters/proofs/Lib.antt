@@ -9,3 +9,4 @@ pub mod ByMonth
 pub mod Window
 pub mod Stretches
 pub mod Stored
+pub mod ShortRuns

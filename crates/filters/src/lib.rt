@@ -176,7 +176,7 @@ fn three_by_nine(first: usize, past: usize, x: &[i64], out: &mut [i64])
     }
 }
 
-// METHOD 2.3, 2.4 and 2.8: a seasonal filter of each month's run.
+// METHOD 2.3, 2.4 and 2.8: a seasonal filter of each month's run. (An arm for each, as in `henderson` and for its reason.)
 pub fn seasonal(chosen: SeasonalFilter, first: usize, past: usize, x: &[i64], out: &mut [i64])
     requires { FilterableMonths first past x.now × (first + 72 ≤ past) × (length out.old ≡ length x.now) }
     ensures { FilteredMonths (table_seasonal chosen) first past x.now out.old out.new }

@@ -68,9 +68,8 @@ pub fn without_level(first: usize, past: usize, r: &[i64], m: &mut [i64], out: &
     less_level(first, past, r, m, out);
 }
 
-// That x is a series that a pass takes stands in four contracts: a type for this one slice would be made anew at each call from passes B, C and D.
 // Steps 1 and 2: T1 and SI1 of x, at their own months from 6 to n - 7; the six months at each end are none of theirs, and stay as they were. (x stays a
-// slice, here and below: a type for what a pass asks of it would be put round it in each call.)
+// slice, here and below: a type for what a pass asks of it would be put round it in each call. So do the work slices, for the reason that pass B gives.)
 pub fn first_si(x: &[i64], t1: &mut [i64], si: &mut [i64])
     requires { PassSeries 6 x.now × (length t1.old ≡ length x.now) × (length si.old ≡ length x.now) }
     ensures { Filled (pos 0) (at_month 6 (T1 plain_monthly x.now)) 6 (length x.now - 6) t1.old t1.new

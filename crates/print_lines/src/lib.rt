@@ -1,4 +1,4 @@
-// METHOD 9: the lines that are printed, put together in a byte array.
+// METHOD 9: the lines that are printed, put together in a byte array. (By hand and not by `Display`, for the reason that `decimals` gives.)
 #![tactic(auto)]
 
 ghost use Rattle.std.specs.Prelude.{◌≡◌, ◌+◌, ◌*◌, ◌≤◌, ◌<◌, length};

@@ -13,7 +13,8 @@ use desk_file::Series;
 use print_lines::Tables;
 use refusals::Refusal;
 
-// The text of a series: its tables, or the line of decomposing's refusal.
+// The text of a series: its tables, or the line of decomposing's refusal. (Here and below arrays are as long as the longest series, since there is no
+// heap; a part of each is lent.)
 fn put_series(text: &mut Text<'_>, start: u8, figures: &[i32])
     requires { (text.old.at + text_room ≤ length text.old.out.now) × (length figures.now ≤ most_months) }
     ensures { Put text_room text.old (series_text start figures.now) text.new }

@@ -1,4 +1,4 @@
--- A filter's table as it is stored, and what the code that reads it asks of it.
+-- A filter's table as it is stored, and what the code that reads it asks of it. Nothing here is promised to a caller of the desk.
 use Rattle.std.specs.Prelude.{ℕ, ◌+◌, ◌*◌, ◌≤◌, length}
 use Rattle.integers.specs.Sums.{norm}
 use Rattle.refusals.specs.Limits.{months_of_year}

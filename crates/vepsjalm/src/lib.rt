@@ -7,7 +7,6 @@ ghost use Rattle.desk_numbers.specs.DeskNumbers.{BackNumbers, ForwardNumbers, Re
 ghost use Rattle.sheet_numbers.specs.SheetNumbers.{SheetNumbers};
 ghost use Rattle.vepsjalm.specs.Numbers.{DecomposeNumbers};
 
-// Numbers and lent places are what C takes and gives: the functions of vepsjalm_c.
 pub fn vepsjalm_decompose(
     figures: &[i32],
     start: u8,
