@@ -105,14 +105,14 @@ fn method_has_every_denominator() {
 fn stored_rows_are_those_of_the_formulas() {
     for terms in LENGTHS {
         let source = document(&format!("crates/rows/src/henderson_{terms}.rt"));
-        let constants = between(&source, "= [", "];");
-        let stored: Vec<i128> = constants.lines().filter(|line| !line.contains("//")).flat_map(numbers).collect();
+        let rows = between(&source, "rows: &[", "],");
+        let stored: Vec<i128> = rows.lines().filter(|line| !line.contains("//")).flat_map(numbers).collect();
         // Of a series of this many months each row serves one, from none before to none after.
         let served = (0..terms).map(|t| henderson_at(terms, t, terms));
         let worked: Vec<i128> = served.flat_map(|row| [row.weights.clone(), vec![0; terms - row.weights.len()]].concat()).collect();
         assert_eq!(stored, worked, "{terms}");
-        let constant = |name: &str| numbers(between(&source, &format!("pub const {name}_HENDERSON_{terms}: usize = "), ";"));
-        assert_eq!([constant("SIDE"), constant("MIDDLE")], [vec![terms as i128 / 2], vec![henderson_rows(terms).divisor]]);
+        let field = |name: &str| numbers(between(&source, &format!("    {name}: "), ","));
+        assert_eq!([field("side"), field("middle")], [vec![terms as i128 / 2], vec![henderson_rows(terms).divisor]]);
     }
 }
 
@@ -120,10 +120,10 @@ fn stored_rows_are_those_of_the_formulas() {
 #[test]
 fn stored_rows_of_3x9_are_shared() {
     let source = document("crates/rows/src/three_by_nine.rt");
-    let stored: Vec<i128> = between(&source, "= [", "];").lines().filter(|line| !line.contains("//")).flat_map(numbers).collect();
-    let constant = |name: &str| numbers(between(&source, &format!("pub const {name}_3X9: usize = "), ";"))[0];
-    let (side, middle, ends) = (constant("SIDE") as usize, constant("MIDDLE"), constant("ENDS"));
-    assert_eq!((side, constant("ROW_STEP"), stored.len()), (5, 6, 36 * 11));
+    let stored: Vec<i128> = between(&source, "rows: &[", "],").lines().filter(|line| !line.contains("//")).flat_map(numbers).collect();
+    let field = |name: &str| numbers(between(&source, &format!("    {name}: "), ","))[0];
+    let (side, middle, ends) = (field("side") as usize, field("middle"), field("ends"));
+    assert_eq!((side, field("row_step"), stored.len()), (5, 6, 36 * 11));
     for (before, after) in ThreeByNine.counts() {
         let row = three_by_nine(before, after);
         let over = if (before, after) == (side, side) { middle } else { ends };
