@@ -10,7 +10,7 @@ use Rattle.desk_forms.specs.declared.sized.SizedFile.{SizedFile}
 use Rattle.desk_checks.specs.declared.Lent.TheVariants.{Slices, Bytes}
 use Rattle.desk_checks.specs.Checked.{too_short, form_checks, FileFits, written_checks}
 
--- ---- reading: a success fills both slices in order of t, a refusal leaves them
+-- ---- reading: a success fills both slices in order of t and hands on the file in its form, a refusal leaves them
 pub record ReadFits (form : Form) (given : ℕ) (file : List ℕ) (figures₀ : List ℤ) (weights₀ : List ℕ) (n start year : ℕ) (figures : List ℤ) (weights : List ℕ) : Type 0 where
   pub fits : FileFits form given (too_short (Slices (length figures₀) (length weights₀)) (count_in file)) file n start year
   pub figures_left : figures ≡ (meaning_of form file).figures ++ drop n figures₀
@@ -22,7 +22,7 @@ pub record ReadStops (form : Form) (given : ℕ) (file : List ℕ) (figures₀ :
   pub weights_left : weights ≡ weights₀
 
 abbrev pub ReadEither : Form → ℕ → List ℕ → List ℤ → List ℕ → Result SizedFile Refusal → List ℤ → List ℕ → Type 0
-ReadEither form given file figures₀ weights₀ (Ok s) figures weights = ReadFits form given file figures₀ weights₀ s.count s.start s.year figures weights
+ReadEither form given file figures₀ weights₀ (Ok s) figures weights = ReadFits form given file figures₀ weights₀ s.count s.start s.year figures weights × (s.form ≡ form) × (s.bytes.now ≡ file)
 ReadEither form given file figures₀ weights₀ (Err q) figures weights = ReadStops form given file figures₀ weights₀ q figures weights
 
 -- ---- writing: a success fills the front of the output with the file, a refusal leaves it
@@ -48,5 +48,5 @@ pub record MoveStops (form : Form) (given : ℕ) (other : Form) (file out₀ : L
   pub out_left : out ≡ out₀
 
 abbrev pub MoveEither : Form → ℕ → Form → List ℕ → List ℕ → Result SizedFile Refusal → List ℕ → Type 0
-MoveEither form given other file out₀ (Ok s) out = MoveFits form given other file out₀ s.count s.start s.year out
+MoveEither form given other file out₀ (Ok s) out = MoveFits form given other file out₀ s.count s.start s.year out × (s.form ≡ form) × (s.bytes.now ≡ file)
 MoveEither form given other file out₀ (Err q) out = MoveStops form given other file out₀ q out

@@ -7,4 +7,4 @@ pub returns-in_err-moved : goal.returns-in_err-moved
 returns-in_err-moved c = let p = err_from_is_err_and c.from_residual.result c.from_residual.ensures.1 in rw (p.1, p.2) (back_refused c.in_err-moved.ensures)
 
 pub returns : goal.returns
-returns c = back_done c.in_ok-moved.ensures c.length.ensures
+returns c = back_done c.in_ok-moved.ensures.0 c.length.ensures

@@ -7,4 +7,4 @@ pub returns-in_err-sized : goal.returns-in_err-sized
 returns-in_err-sized c = let p = err_from_is_err_and c.from_residual.result c.from_residual.ensures.1 in rw (p.1, p.2) (read_refused c.in_err-sized.ensures)
 
 pub returns : goal.returns
-returns c = read_done c.in_ok-sized.ensures
+returns c = read_done c.in_ok-sized.ensures.0
