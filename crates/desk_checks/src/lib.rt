@@ -59,7 +59,9 @@ fn too_short(lent: Lent, n: usize) -> bool
     }
 }
 
-// Rows 5 and 10, of the arrays.
+// Rows 5 and 10, of the arrays. (Not inlined: where the form is known the compiler takes the next month by a choice of values instead of a branch, and
+// reading takes a tenth longer.)
+#[inline(never)]
 fn check_contents(file: SizedFile) -> Result<(), Refusal>
     ensures { ContentsSay (meaning_of file.entry.form file.entry.bytes.now) result }
 {
@@ -72,8 +74,8 @@ fn check_contents(file: SizedFile) -> Result<(), Refusal>
     Ok(())
 }
 
-// A file that is read or moved; `given` is its first year where the form has none. Inlined, so that what is done with the file knows its form: moving
-// takes 36,000 instructions for 600 months, and else 66,000.
+// A file that is read or moved; `given` is its first year where the form has none. Inlined, as in `desk_either`, so that what is done with the file knows its
+// form.
 #[inline(always)]
 pub fn check_file<'a>(
     file: &'a [u8],

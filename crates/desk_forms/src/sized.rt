@@ -48,7 +48,9 @@ impl<'a> SizedFile<'a> {
         desk_arrays::get(self.bytes, self.form.weights(self.count), chart, weights);
     }
 
-    // Writes the file of the same series in another form; the rest of the output stays.
+    // Writes the file of the same series in another form; the rest of the output stays. (Inlined, so that both orders are known: moving forward takes half of
+    // the instructions.)
+    #[inline(always)]
     pub fn move_into(self, other: Form, out: &mut [u8])
         requires { length_for (front_of other) self.count ≤ length out.old }
         ensures { out.new ≡ bytes_in other self.entry.year (meaning_of self.entry.form self.entry.bytes.now)
