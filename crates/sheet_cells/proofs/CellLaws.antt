@@ -4,7 +4,7 @@ use mathlib.Core.Path.{◌≡◌, refl, sym, ap, subst, ◌∙◌}
 use mathlib.Core.Bool.{Bool, true, false, not, cond, ◌&&◌}
 use mathlib.Core.List.{List}
 use native.Mathlib.Omega.{arith}
-use borrow.Author.Tests.{not-false}
+use borrow.Author.Tests.{ne_eqb, not-false}
 use lib.Dec.{eqb}
 use lib.ListN.{get_or}
 use lib.Ieee.{Float}
@@ -44,6 +44,29 @@ module _ (sheet : List ℕ) (t : ℕ) where
   unfolding cell_at
   cell-figure k u = rw (k, u)
 
+  pub cell-gap : kind_at sheet t ≡ 0 → unused_at sheet (first_at sheet t) ≡ true → unused_at sheet (second_at sheet t) ≡ true → cell_at sheet t ≡ Some Gap
+  unfolding cell_at
+  cell-gap k u v = rw (k, u, v)
+
+  -- the three ways to be malformed, whatever else the cell holds
+  pub first_used : kind_at sheet t ≡ 0 → unused_at sheet (first_at sheet t) ≡ false → cell_at sheet t ≡ None
+  unfolding cell_at
+  first_used k u = rw (k, u)
+
+  pub second_used : (kind_at sheet t ≡ 2 → ⊥) → unused_at sheet (second_at sheet t) ≡ false → cell_at sheet t ≡ None
+  unfolding cell_at
+  second_used k u = rw (u, ne_eqb (kind_at sheet t) 2 k) (by (unused_at sheet (first_at sheet t)) (eqb (kind_at sheet t) 0) (eqb (kind_at sheet t) 1))
+    where
+      by : (f a b : Bool) → cond a (cond (f && false) (Some Gap) None) (cond b None None) ≡ None
+      by true true b = refl
+      by false true b = refl
+      by f false true = refl
+      by f false false = refl
+
+  pub kind-unknown : (kind_at sheet t ≡ 0 → ⊥) → (kind_at sheet t ≡ 1 → ⊥) → (kind_at sheet t ≡ 2 → ⊥) → cell_at sheet t ≡ None
+  unfolding cell_at
+  kind-unknown a b c = rw (ne_eqb (kind_at sheet t) 0 a, ne_eqb (kind_at sheet t) 1 b, ne_eqb (kind_at sheet t) 2 c)
+
 -- each double of a cell that is read is with its month
 pub cell-month : (sheet : List ℕ) (t : ℕ) → OfMonth t (cell_at sheet t)
 unfolding cell_at imported_at
@@ -63,7 +86,7 @@ cell-month sheet t =
     by false false false b s x y = tt
 
 -- ---- what the checks of a cell say
-accepted : (d : Imported) → counts d.double ≡ true → acceptance d ≡ Ok tt
+pub accepted : (d : Imported) → counts d.double ≡ true → acceptance d ≡ Ok tt
 unfolding acceptance
 accepted d h = rw h
 

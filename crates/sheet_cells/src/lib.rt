@@ -58,7 +58,7 @@ pub struct Cells<'a> {
 impl<'a> Cells<'a> {
     // The cell of month t. None is a malformed one: its kind is unknown, or an unused double of it has a byte that is not zero. (Inlined in the two walks
     // over the cells: else reading takes 60 % more instructions.)
-    #[tactic(auto, using(crate::proofs::CellLaws::kind_byte), unfolding(crate::specs::Cells::cell_at, crate::specs::Cells::first_at, crate::specs::Cells::second_at))]
+    #[tactic(auto, using(crate::proofs::CellLaws::kind_byte, crate::proofs::CellLaws::second_used), unfolding(crate::specs::Cells::cell_at, crate::specs::Cells::first_at, crate::specs::Cells::second_at))]
     #[inline(always)]
     pub fn cell_at(&self, t: usize) -> Option<Cell>
         requires { t < self.now.n }
