@@ -12,10 +12,10 @@ returns-then-self-lt10 t c = first-digit c.put_byte.ensures c.digit.ensures (ome
 
 -- more than one
 pub put-requires : goal.put-requires
-put-requires t c = (omega (arith, div-add-mod' c.args.self 10), omega (arith, one-longer c.args.self (omega arith) (omega (arith, c.ranges.self.fits))))
+put-requires t c = (omega (arith, div-add-mod' c.args.self 10), omega (arith, one-longer c.args.self (omega arith)))
 
 pub put_byte-requires-2 : goal.put_byte-requires-2
-put_byte-requires-2 t c = omega (arith, one-longer c.args.self (omega arith) (omega (arith, c.ranges.self.fits)), c.put.ensures.stored)
+put_byte-requires-2 t c = omega (arith, one-longer c.args.self (omega arith), c.put.ensures.stored)
 
 pub returns : goal.returns
 returns t c = next-digit c.put.ensures c.put_byte-2.ensures c.digit-2.ensures (omega arith) (omega (arith, c.ranges.self.fits))
