@@ -58,7 +58,7 @@ big s m e h = counts-fin s m e ∙ by (eqb (m * up e % down e) 0) (leb (m * up e
     by true d e = e
     by false d e = refl
 
-too_far : (x : Float) → largest_figure < nat_abs (to_signed 31 x) → counts x ≡ false
+pub too_far : (x : Float) → largest_figure < nat_abs (to_signed 31 x) → counts x ≡ false
 unfolding to_signed
 too_far nan h = none-counts.0
 too_far (inf s) h = none-counts.1 s
@@ -139,7 +139,7 @@ pub record Near (x : Float) : Type 0 where
 cut : (n q : ℕ) → min q n ≤ largest_figure → largest_figure < n → min q n ≡ q
 cut n q h k = omega arith
 
-near_test : (x : Float) → nat_abs (to_signed 31 x) ≤ largest_figure → Near x
+pub near_test : (x : Float) → nat_abs (to_signed 31 x) ≤ largest_figure → Near x
 unfolding to_signed number_in
 near_test nan h = record { number = refl; test = eq_nan (of_int binary64 (pos 0)) ∙ sym none-counts.0 }
 near_test (inf true) h = absurd (omega arith)

@@ -2,7 +2,7 @@
 -- `Reads t z B`: the term t of the need is the number z, and z is within B. A proof puts these together as the code puts the operations together.
 use mathlib.Core.Path.{◌≡◌, refl, sym, ap₂, ◌∙◌, subst}
 use Prim.Native.Nat.{ℕ, suc, ◌+◌, ◌*◌, ◌^◌, ◌<◌, ◌≤◌}
-use native.Mathlib.Nat.{le_trans, div-le_self}
+use native.Mathlib.Nat.{lt_of_le_of_lt, le_trans, div-le_self}
 use native.Mathlib.Omega.{arith}
 use lib.Dec.{T, ltb, ltb→lt}
 use lib.IntN.{ℤ, pos, negsuc, nat_abs, ◌+ℤ◌, ◌-ℤ◌, ◌*ℤ◌}
@@ -54,6 +54,15 @@ i_fits {B = B} h k = subst (SFits w64) (sym h.eq) (sfits64 h.bound (ltb→lt B (
 
 pub i_kept : {t z : ℤ} {B : ℕ} → Reads t z B → Room B → Reads (to_z w64 (of_z w64 t)) z B
 i_kept h k = record { eq = to_z-of_z (i_fits h k) ∙ h.eq; bound = h.bound }
+
+-- a divisor
+of_z-pos : (z : ℤ) → 0 < nat_abs z → nat_abs z < 2 ^ 63 → 0 < of_z w64 z
+of_z-pos (pos n) h k = h
+of_z-pos (negsuc n) h k = omega arith
+
+pub i-divisor : {a b x y : ℤ} {A B : ℕ} → Reads a x A → Reads b y B → 0 < nat_abs y → Room A → Room B → (0 < of_z w64 b) × SFits w64 (quot_z a (to_z w64 (of_z w64 b)))
+i-divisor {a} {b} {x} {y} {A} {B} h k p la lb =
+    (rw k.eq (of_z-pos y p (lt_of_le_of_lt k.bound.abs (ltb→lt B (2 ^ 63) lb))), i_fits (i/ h (i_kept k lb)) la)
 
 -- a positive number has a size
 pub pos-abs : (d : ℤ) → pos 0 <ℤ d → 0 < nat_abs d

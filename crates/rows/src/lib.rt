@@ -25,7 +25,7 @@ pub struct StoredTable {
 }
 
 // METHOD 2.6: the denominator of the rows for the ends of Henderson's filters.
-const ENDS_HENDERSON: usize = 1000000;
+pub const ENDS_HENDERSON: usize = 1000000;
 
 // METHOD 2.3, 2.4 and 2.8: which filter of a month's run.
 #[derive(Clone, Copy)]
